@@ -1,0 +1,4 @@
+pub mod Each
+pub mod Parts
+pub mod Steps
+pub mod Histories

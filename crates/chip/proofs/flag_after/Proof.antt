@@ -1,0 +1,19 @@
+-- A flag whose bit is set becomes bit 7.
+use borrow.Author.Needs.{needs}
+use Rattle.chip.proofs.flag_after.Statement.{statement}
+use Rattle.chip.proofs.flag_after.Tie as tie
+
+has-bit-requires : tie.Need-has-bit-requires
+has-bit-requires c κs = search needs
+
+has-bit-requires-2 : tie.Need-has-bit-requires-2
+has-bit-requires-2 c κs = search needs
+
+returns : tie.Need-returns
+returns c = rw (← c .before .before .has-bit .ensures, c .before .if1 .taken) (c .has-bit2 .ensures)
+
+returns-2 : tie.Need-returns-2
+returns-2 c = rw (← c .before .has-bit .ensures, c .if1 .left)
+
+pub flag-after-spec : {M : Type 1} → statement M
+flag-after-spec = tie.close (tie.spec has-bit-requires has-bit-requires-2 returns returns-2)
