@@ -2,3 +2,4 @@ pub mod Each
 pub mod Parts
 pub mod Steps
 pub mod Histories
+pub mod Bits

@@ -1,7 +1,7 @@
 -- Laws of the channels' parts of the array: they lie apart, so a change in one part leaves the contents of the others.
-use Prim.Native.Nat.{ℕ, zero, suc, _+_, _-_, _<_, _≤_}
+use Prim.Native.Nat.{ℕ, suc, _+_, _-_, _<_, _≤_}
 use mathlib.Core.Path.{_≡_, refl, sym, _∙_, ap}
-use mathlib.Core.Bool.{Bool, true, false, _&&_, _||_, false≢true}
+use mathlib.Core.Bool.{Bool, true, false, _||_, false≢true}
 use mathlib.Core.Logic.{_⊎_, inl, inr, ⊎-elim}
 use mathlib.Core.List.{List, [], _∷_, _++_}
 use lib.ListN.{length, getD, set}
@@ -12,11 +12,10 @@ use native.Mathlib.Numerals.{add-one}
 use native.Mathlib.Decide.{ℕ-discrete}
 use borrow.Author.Tests.{leb-true, le-leb, ne-eqb}
 use Rattle.chip.specs.declared.Chip.{Chip}
-use Rattle.chip.specs.declared.Taken.{Taken}
 use Rattle.chip.specs.Each.{each, every}
-use Rattle.chip.specs.Record.{starts, placeOf, contents, flagsOf, stateOf, validOf, Free, Shifted}
+use Rattle.chip.specs.Record.{starts, placeOf, contents, stateOf, validOf, Free, Shifted}
 use Rattle.chip.specs.Promise.{Put-done, Take-done}
-use Rattle.chip_rules.specs.State.{Channel, State, held, chan, put}
+use Rattle.chip_rules.specs.State.{held, chan, put}
 use Rattle.chip_rules.specs.Rules.{capacity}
 use Rattle.chip.proofs.Each.{each-at, each-length, each-same, each-snoc, each-set, every-at, every-true}
 
@@ -146,7 +145,7 @@ module _ (chip : Chip) (k : ℕ) (small : k < 8) (ok : validOf chip ≡ true) (e
       record {
         state = changed-state chip k small ok eight r (n + 1) (omega arith) same ∙ rw all;
         valid = changed-valid chip k small ok eight r (n + 1) (omega arith);
-        free = changed-free chip k small ok eight r (n + 1) (omega arith) same;
+        free = record { bytes = changed-free chip k small ok eight r (n + 1) (omega arith) same; bits = refl };
       }
 
   -- the oldest byte taken, and the others moved down
@@ -171,5 +170,5 @@ module _ (chip : Chip) (k : ℕ) (small : k < 8) (ok : validOf chip ≡ true) (e
         oldest = chan-at chip k small ∙ ap (λ (c : ℕ). each byte c) q ∙ rw (left, later, first);
         state = changed-state chip k small ok eight rest m most same ∙ rw left;
         valid = changed-valid chip k small ok eight rest m most;
-        free = changed-free chip k small ok eight rest m most same;
+        free = record { bytes = changed-free chip k small ok eight rest m most same; bits = refl };
       }

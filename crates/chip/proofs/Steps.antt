@@ -2,28 +2,30 @@
 use Prim.Native.Nat.{ℕ, _/_, _<_, _≤_}
 use mathlib.Core.Path.{_≡_, refl, sym, _∙_, ap}
 use mathlib.Core.Bool.{Bool, true, false, cond, not, _&&_, true≢false}
-use mathlib.Core.List.{List, [], _∷_, _++_}
-use lib.ListN.{length, getD, replicate}
+use mathlib.Core.List.{[], _∷_}
+use lib.ListN.{length, replicate}
 use lib.Seq.{set-getD}
 use lib.Dec.{ltb, leb, eqb}
 use native.Mathlib.Omega.{arith}
 use borrow.Author.Tests.{ltb-true, ltb-false, leb-true}
-use Rattle.chip.specs.declared.Flags as declared
 use Rattle.chip.specs.declared.Chip.{Chip}
 use Rattle.chip.specs.declared.Taken.{Taken}
 use Rattle.chip.specs.declared.Accessed.{Accessed}
-use Rattle.chip.specs.declared.Answer.the-variants.{Done, Missing, NoRoom, Empty}
-use Rattle.chip.specs.Record.{flagsOf, stateOf, validOf, view}
-use Rattle.chip.specs.Promise.{replyOf, Access-done, Step-done, Put-done, Take-done, Control-done}
+use Rattle.chip.specs.declared.Answer.the-variants.{Done, NoRoom, Empty}
+use Rattle.chip.specs.Record.{flagsOf, stateOf, validOf}
+use Rattle.chip.specs.Promise.{Unused-kept, Flags-after, replyOf, Access-done, Step-done, Put-done, Take-done, Control-done}
 use Rattle.chip_rules.specs.State.{Channel, State, Outcome, R3, held, chan, put, Access, done}
-use Rattle.chip_rules.specs.Rules.{capacity, room, limit, decode, exists, control, clears, emptied, controlled, takeOldest, append, on, step, perform}
-use Rattle.chip_rules.specs.History.{View, says, after, sound, broken}
+use Rattle.chip_rules.specs.Rules.{bit, capacity, room, limit, decode, exists, clears, emptied, controlled, takeOldest, append, on, step, perform}
+use Rattle.chip_rules.specs.History.{View, sound}
 use Rattle.chip_rules.proofs.Laws.{and-true-both, by-side, by-none}
 use Rattle.chip.proofs.Each.{every-at}
 
 -- what is put back as it was changes nothing
 put-same : (s : State) (c : ℕ) → s ≡ put s c (chan s c)
 put-same s c = rw (set-getD (s .channels) c [])
+
+unused-same : (chip : Chip) → Unused-kept chip chip
+unused-same chip = record { bytes = λ p f. refl; bits = refl }
 
 -- a channel of no bytes
 nothing : (l : Channel) → ltb 0 (length l) ≡ false → l ≡ []
@@ -46,7 +48,7 @@ module _ (chip : Chip) (k : ℕ) where
       omega (
         arith,
         ltb-true (held (chan (stateOf chip) k)) (limit (flagsOf (chip .flags)) k) has,
-        limit-most (eqb (k / 2) R3 && not (chip .flags .v)) k small,
+        limit-most (eqb (k / 2) R3 && not (bit (chip .flags) 16)) k small,
       )
 
   -- a data write, with room and without
@@ -58,7 +60,7 @@ module _ (chip : Chip) (k : ℕ) where
   pub full : (b : ℕ) → validOf chip ≡ true → room (flagsOf (chip .flags)) k (held (chan (stateOf chip) k)) ≡ false
       → Step-done chip (on (stateOf chip) k (append (room (flagsOf (chip .flags)) k) b)) (record { answer = NoRoom; byte = 0; chip = chip })
   unfolding append
-  full b ok has = rw has (record { reply = refl; state = put-same (stateOf chip) k; valid = ok; kept = λ n. refl; free = λ p f. refl })
+  full b ok has = rw has (record { reply = refl; state = put-same (stateOf chip) k; valid = ok; kept = λ n. refl; free = unused-same chip })
 
   -- a data read, of a byte and of none
   pub took : (r : Taken) → Take-done chip k r
@@ -71,25 +73,25 @@ module _ (chip : Chip) (k : ℕ) where
   unfolding takeOldest
   none ok has =
       let e : chan (stateOf chip) k ≡ [] = nothing (chan (stateOf chip) k) has in
-      rw e (record { reply = refl; state = rw e at (put-same (stateOf chip) k); valid = ok; kept = λ n. refl; free = λ p f. refl })
+      rw e (record { reply = refl; state = rw e at (put-same (stateOf chip) k); valid = ok; kept = λ n. refl; free = unused-same chip })
 
 -- a status write that changes nothing, and a status read
 pub unchanged : (chip : Chip) (b : ℕ) → validOf chip ≡ true → Step-done chip (done b (stateOf chip)) (record { answer = Done; byte = b; chip = chip })
-unchanged chip b ok = record { reply = refl; state = refl; valid = ok; kept = λ n. refl; free = λ p f. refl }
+unchanged chip b ok = record { reply = refl; state = refl; valid = ok; kept = λ n. refl; free = unused-same chip }
 
 module _ (chip : Chip) (x : ℕ) where
   pub controlled-step : (next : Chip) → Control-done chip x next → Step-done chip (done 0 (controlled x (stateOf chip))) (record { answer = Done; byte = 0; chip = next })
   controlled-step next d =
-      record { reply = refl; state = d .state; valid = d .valid; kept = λ n. absurd (n refl); free = λ p f. rw (d .bytes) }
+      record { reply = refl; state = d .state; valid = d .valid; kept = λ n. absurd (n refl); free = d .free }
 
-  module _ (f : declared.Flags) (flags : flagsOf f ≡ control x (flagsOf (chip .flags))) where
+  module _ (f : ℕ) (d : Flags-after x (chip .flags) f) where
     pub clear-done : clears x ≡ true → Control-done chip x (record { bytes = chip .bytes; held = replicate 8 0; flags = f })
     unfolding emptied validOf capacity
-    clear-done e = record { state = rw (e, ← flags); valid = refl; bytes = refl }
+    clear-done e = record { state = rw (e, ← d .flags); valid = refl; free = record { bytes = λ p f. refl; bits = d .bits } }
 
     pub control-done : clears x ≡ false → validOf chip ≡ true → Control-done chip x (record { bytes = chip .bytes; held = chip .held; flags = f })
     unfolding validOf
-    control-done e ok = record { state = rw (e, ← flags); valid = ok; bytes = refl }
+    control-done e ok = record { state = rw (e, ← d .flags); valid = ok; free = record { bytes = λ p f. refl; bits = d .bits } }
 
 -- one of the tests fails, and it is not the last
 no-access : (a b c : Bool) → (a && (b && c)) ≡ false → c ≡ true → (a && b) ≡ false
@@ -113,7 +115,7 @@ served side offset chip h =
 
 module _ (chip : Chip) (a : Access) where
   -- an access to a side and an offset that exist, of a valid record
-  pub as-ruled : (r : Accessed) → validOf chip ≡ true → exists a ≡ true → Step-done chip (step (stateOf chip) (a .side) (decode a)) r → Access-done chip a r
+  pub as-ruled : (r : Accessed) → validOf chip ≡ true → exists a ≡ true → Step-done chip (step (stateOf chip) (a .side) (decode a)) r → Access-done chip a (replyOf r) (r .chip)
   as-ruled r ok x d =
       let e : perform (stateOf chip) a ≡ step (stateOf chip) (a .side) (decode a) = by-side (stateOf chip) a x in
       record {
@@ -124,16 +126,16 @@ module _ (chip : Chip) (a : Access) where
       }
 
   -- any other
-  pub missing-as-ruled : (leb (a .side) 1 && (leb (a .offset) 7 && validOf chip)) ≡ false → Access-done chip a (record { answer = Missing; byte = 0; chip = chip })
+  pub missing-as-ruled : (leb (a .side) 1 && (leb (a .offset) 7 && validOf chip)) ≡ false → Access-done chip a (record { answer = 1; byte = 0 }) chip
   missing-as-ruled h = go (validOf chip) refl
     where
-      go : (t : Bool) → validOf chip ≡ t → Access-done chip a (record { answer = Missing; byte = 0; chip = chip })
+      go : (t : Bool) → validOf chip ≡ t → Access-done chip a (record { answer = 1; byte = 0 }) chip
       go true p =
           let n = by-none (stateOf chip) a (no-access (leb (a .side) 1) (leb (a .offset) 7) (validOf chip) h p) in
           record {
             reply = rw p (ap (λ (o : Outcome). o .reply) (sym n));
             left = rw p (ap {B = View Chip} (λ (o : Outcome). sound (o .state)) (sym n));
             kept = λ n. refl;
-            free = λ p f. refl;
+            free = unused-same chip;
           }
-      go false p = record { reply = rw p; left = rw p; kept = λ n. refl; free = λ p f. refl }
+      go false p = record { reply = rw p; left = rw p; kept = λ n. refl; free = unused-same chip }

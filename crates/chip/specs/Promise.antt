@@ -1,5 +1,5 @@
 -- What the chip's functions promise, by the rules and through the view of the record.
-use Prim.Native.Nat.{ℕ}
+use Prim.Native.Nat.{ℕ, _/_}
 use mathlib.Core.Path.{_≡_}
 use mathlib.Core.Bool.{Bool, true}
 use mathlib.Core.List.{List, [], _∷_, _++_}
@@ -9,10 +9,11 @@ use Rattle.chip.specs.declared.Taken.{Taken}
 use Rattle.chip.specs.declared.Accessed.{Accessed}
 use Rattle.chip.specs.declared.Answer.{Answer}
 use Rattle.chip.specs.declared.Answer.the-variants.{Done, Missing, NoRoom, Empty}
-use Rattle.chip.specs.Record.{stateOf, validOf, view, blank, Free}
+use Rattle.chip.specs.Record.{flagsOf, stateOf, validOf, view, blank, Free}
 use Rattle.chip_rules.specs.State.{chan, put, Access, Reply, Outcome}
-use Rattle.chip_rules.specs.Rules.{controlled}
-use Rattle.chip_rules.specs.History.{says, after}
+use Rattle.chip_rules.specs.Rules.{control, controlled}
+use Rattle.chip_rules.specs.History.{Event, says, after}
+use Rattle.chip_rules.specs.Trace.{Trace}
 
 -- Document 01's number of each answer; with the byte, what the caller is told.
 abbrev pub number : Answer → ℕ
@@ -30,20 +31,29 @@ replyOf r = record { answer = number (r .answer); byte = r .byte }
 abbrev pub accessOf : ℕ → ℕ → Bool → ℕ → Access
 accessOf side offset write byte = record { side = side; offset = offset; write = write; byte = byte }
 
--- What `access` promises of the record, the access and its result, for every one of them.
-pub record Access-done (chip : Chip) (a : Access) (r : Accessed) : Type 0 where
+-- the part of a record that stands for nothing is as it was
+pub record Unused-kept (chip r : Chip) : Type 0 where
+  pub bytes : (p : ℕ) → Free r p → getD (r .bytes) p 0 ≡ getD (chip .bytes) p 0
+  pub bits : r .flags / 64 ≡ chip .flags / 64
+
+-- What `access` promises of the record, the access, the reply and the record left, for every one of them.
+pub record Access-done (chip : Chip) (a : Access) (r : Reply) (next : Chip) : Type 0 where
   -- the number of the answer and the byte
-  pub reply : replyOf r ≡ says (view chip) a
+  pub reply : r ≡ says (view chip) a
   -- the channels and flags left, or the record itself where it holds more than its places
-  pub left : view (r .chip) ≡ after (view chip) a
+  pub left : view next ≡ after (view chip) a
   -- "chip unchanged": a refusal leaves the record itself
-  pub kept : (number (r .answer) ≡ 0 → ⊥) → r .chip ≡ chip
-  -- the free part: bytes of the array that are not held stand for nothing, and stay as they were
-  pub free : (p : ℕ) → Free (r .chip) p → getD (r .chip .bytes) p 0 ≡ getD (chip .bytes) p 0
+  pub kept : (r .answer ≡ 0 → ⊥) → next ≡ chip
+  -- the free part: bytes of the array that are not held, and bits 7 and 6 of the flags, stand for nothing and stay as they were
+  pub free : Unused-kept chip next
 
 -- What `reset` promises: the record of a fresh chip, whatever it was.
 abbrev pub Reset-done : Chip → Chip → Type 0
 Reset-done chip r = r ≡ blank
+
+-- A history done by the program from one record to another, with the replies: each step is what `access` or `reset` promises.
+abbrev pub History : Chip → List Event → List Reply → Chip → Type 0
+History k es rs l = Trace Access-done Reset-done k es rs l
 
 -- What the parts of `access` promise of a record that holds no more than its places.
 pub record Step-done (chip : Chip) (o : Outcome) (r : Accessed) : Type 0 where
@@ -51,23 +61,28 @@ pub record Step-done (chip : Chip) (o : Outcome) (r : Accessed) : Type 0 where
   pub state : stateOf (r .chip) ≡ o .state
   pub valid : validOf (r .chip) ≡ true
   pub kept : (number (r .answer) ≡ 0 → ⊥) → r .chip ≡ chip
-  pub free : (p : ℕ) → Free (r .chip) p → getD (r .chip .bytes) p 0 ≡ getD (chip .bytes) p 0
+  pub free : Unused-kept chip (r .chip)
 
 -- one byte more in channel c
 pub record Put-done (chip : Chip) (c b : ℕ) (r : Chip) : Type 0 where
   pub state : stateOf r ≡ put (stateOf chip) c (chan (stateOf chip) c ++ (b ∷ []))
   pub valid : validOf r ≡ true
-  pub free : (p : ℕ) → Free r p → getD (r .bytes) p 0 ≡ getD (chip .bytes) p 0
+  pub free : Unused-kept chip r
 
 -- the oldest byte of channel c, and the chip without it
 pub record Take-done (chip : Chip) (c : ℕ) (r : Taken) : Type 0 where
   pub oldest : chan (stateOf chip) c ≡ r .byte ∷ chan (stateOf (r .chip)) c
   pub state : stateOf (r .chip) ≡ put (stateOf chip) c (chan (stateOf (r .chip)) c)
   pub valid : validOf (r .chip) ≡ true
-  pub free : (p : ℕ) → Free (r .chip) p → getD (r .chip .bytes) p 0 ≡ getD (chip .bytes) p 0
+  pub free : Unused-kept chip (r .chip)
 
 -- the control byte x
 pub record Control-done (chip : Chip) (x : ℕ) (r : Chip) : Type 0 where
   pub state : stateOf r ≡ controlled x (stateOf chip)
   pub valid : validOf r ≡ true
-  pub bytes : r .bytes ≡ chip .bytes
+  pub free : Unused-kept chip r
+
+-- the flags byte f after the control byte x
+pub record Flags-after (x f r : ℕ) : Type 0 where
+  pub flags : flagsOf r ≡ control x (flagsOf f)
+  pub bits : r / 64 ≡ f / 64

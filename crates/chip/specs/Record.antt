@@ -1,15 +1,14 @@
 -- How the chip record stores the state that the rules speak of: the one place where its layout shows.
 use Prim.Native.Nat.{ℕ, _+_, _<_, _≤_}
 use mathlib.Core.Path.{_≡_}
-use mathlib.Core.Bool.{Bool, false, cond}
+use mathlib.Core.Bool.{Bool, cond}
 use mathlib.Core.List.{List, [], _∷_}
 use lib.ListN.{getD, replicate}
 use lib.Dec.{leb}
-use Rattle.chip.specs.declared.Flags as declared
 use Rattle.chip.specs.declared.Chip.{Chip}
 use Rattle.chip.specs.Each.{each, every}
 use Rattle.chip_rules.specs.State.{Channel, Flags, State}
-use Rattle.chip_rules.specs.Rules.{capacity, fresh}
+use Rattle.chip_rules.specs.Rules.{capacity, bit, fresh}
 use Rattle.chip_rules.specs.History.{View, sound, broken}
 
 -- where each channel's part of the array starts; parasite-to-host R1 lies last
@@ -24,8 +23,9 @@ placeOf c i = getD starts c 0 + i
 abbrev pub contents : Chip → ℕ → Channel
 contents chip c = each (λ (i : ℕ). getD (chip .bytes) (placeOf c i) 0) (getD (chip .held) c 0)
 
-abbrev pub flagsOf : declared.Flags → Flags
-flagsOf f = record { p = f .p; v = f .v; m = f .m; j = f .j; i = f .i; q = f .q }
+-- the flags are bits 5 to 0 of their byte
+abbrev pub flagsOf : ℕ → Flags
+flagsOf n = record { p = bit n 32; v = bit n 16; m = bit n 8; j = bit n 4; i = bit n 2; q = bit n 1 }
 
 -- The abstraction function: the state that a record stands for.
 abbrev pub stateOf : Chip → State
@@ -41,12 +41,7 @@ view chip = cond (validOf chip) (sound (stateOf chip)) (broken chip)
 
 -- a fresh chip
 abbrev pub blank : Chip
-blank =
-    record {
-      bytes = replicate 24 0;
-      held = replicate 8 0;
-      flags = record { p = false; v = false; m = false; j = false; i = false; q = false };
-    }
+blank = record { bytes = replicate 24 0; held = replicate 8 0; flags = 0 }
 
 -- what a reset leaves of a record that holds more than its places
 abbrev pub repaired : Chip → View Chip

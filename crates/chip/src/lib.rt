@@ -3,28 +3,20 @@ ghost use Prim.Native.Nat.{_+_, _≤_, _<_};
 ghost use mathlib.Core.Path.{_≡_};
 ghost use mathlib.Core.Bool.{true, cond, _&&_};
 ghost use lib.Dec.{leb, ltb, eqb};
-ghost use Rattle.chip_rules.specs.State.{held, fed, toward, chan, done, host, parasite, R1, R3, R4};
-ghost use Rattle.chip_rules.specs.Rules.{decode, capacity, limit, room, nFlag, ready, weigh, flagBits, low, statusOf, bit, switched, control, clears, controlled, hostIrq, parasiteIrq, parasiteNmi, lines, takeOldest, append, on, step};
+ghost use Rattle.chip_rules.specs.State.{held, fed, toward, chan, done, host, R1, R3};
+ghost use Rattle.chip_rules.specs.Rules.{decode, capacity, limit, room, nFlag, ready, weigh, low, statusOf, bit, switched, control, clears, controlled, hostIrq, parasiteIrq, parasiteNmi, lines, takeOldest, append, on, step};
 ghost use Rattle.chip_rules.specs.History.{lineValue};
 ghost use Rattle.chip.specs.Record.{flagsOf, stateOf, validOf, view, blank, Shifted};
-ghost use Rattle.chip.specs.Promise.{accessOf, told, Access-done, Reset-done, Step-done, Put-done, Take-done, Control-done};
-
-// The flags of the host's control register, by the application note's letters.
-pub struct Flags {
-    pub p: bool,
-    pub v: bool,
-    pub m: bool,
-    pub j: bool,
-    pub i: bool,
-    pub q: bool,
-}
+ghost use Rattle.chip.specs.Promise.{number, accessOf, replyOf, told, Flags-after, Access-done, Reset-done, Step-done, Put-done, Take-done, Control-done};
 
 // The bytes of channel c lie in its part of `bytes`, oldest first, and `held[c]` counts them. Channels are numbered register by
-// register, host-to-parasite first; the part of parasite-to-host R1 lies last.
+// register, host-to-parasite first; the part of parasite-to-host R1 lies last. The flags P V M J I Q are bits 5 to 0 of `flags`;
+// its bits 7 and 6 stand for nothing. Every value of every byte is a chip record.
+#[repr(C)]
 pub struct Chip {
     pub bytes: [u8; 24],
     pub held: [u8; 8],
-    pub flags: Flags,
+    pub flags: u8,
 }
 
 // The answers to an access: done; a side or offset that does not exist, or a record that holds more than its capacities;
@@ -34,6 +26,20 @@ pub enum Answer {
     Missing,
     NoRoom,
     Empty,
+}
+
+impl Answer {
+    // Document 01's number of the answer.
+    pub fn number(self) -> u8
+        ensures { λ r. ⌜ r ≡ number self ⌝ }
+    {
+        match self {
+            Answer::Done => 0,
+            Answer::Missing => 1,
+            Answer::NoRoom => 2,
+            Answer::Empty => 3,
+        }
+    }
 }
 
 // The chip stands last.
@@ -70,6 +76,19 @@ impl Chip {
 
     pub const LATCH_CAPACITY: u8 = 1;
 
+    // The weights of the flags, by the application note's letters.
+    pub const FLAG_P: u8 = 32;
+
+    pub const FLAG_V: u8 = 16;
+
+    pub const FLAG_M: u8 = 8;
+
+    pub const FLAG_J: u8 = 4;
+
+    pub const FLAG_I: u8 = 2;
+
+    pub const FLAG_Q: u8 = 1;
+
     // A fresh chip.
     pub fn new() -> Self
         ensures { λ r. ⌜ r ≡ blank ⌝ }
@@ -77,14 +96,7 @@ impl Chip {
         Chip {
             bytes: [0; 24],
             held: [0; 8],
-            flags: Flags {
-                p: false,
-                v: false,
-                m: false,
-                j: false,
-                i: false,
-                q: false,
-            },
+            flags: 0,
         }
     }
 
@@ -97,7 +109,7 @@ impl Chip {
 
     // One access. Side 0 is the host and 1 the parasite; a read ignores `byte`.
     pub fn access(self, side: u8, offset: u8, write: bool, byte: u8) -> Accessed
-        ensures { λ r. ⌜ Access-done self (accessOf side offset write byte) r ⌝ }
+        ensures { λ r. ⌜ Access-done self (accessOf side offset write byte) (replyOf r) (r .chip) ⌝ }
     {
         if self.served(side, offset) {
             self.step(side, offset, write, byte)
@@ -295,7 +307,7 @@ impl Chip {
         ensures { λ r. ⌜ r ≡ nFlag (flagsOf (self .flags)) (held (chan (stateOf self) (fed host R3))) ⌝ }
     {
         let flags = self.flags;
-        if flags.v {
+        if has_bit(flags, Chip::FLAG_V) {
             self.count(4) == 2
         } else {
             self.holds_byte(4)
@@ -333,32 +345,35 @@ impl Chip {
         weight(self.host_irq(), 1)
             + weight(self.parasite_irq(), 2)
             + weight(self.parasite_nmi(), 4)
-            + weight(flags.p, 8)
+            + weight(has_bit(flags, Chip::FLAG_P), 8)
     }
 
-    // Whether channel `c` holds a byte and its interrupt is enabled.
-    fn interrupts(self, enabled: bool, c: usize) -> bool
-        requires { ⌜ c < 8 ⌝ }
-        ensures { λ r. ⌜ r ≡ (enabled && ltb 0 (held (chan (stateOf self) c))) ⌝ }
+    // Whether the flag of weight `w` is set and channel `c` holds a byte.
+    fn interrupts(self, w: u8, c: usize) -> bool
+        requires { ⌜ (0 < w) × (c < 8) ⌝ }
+        ensures { λ r. ⌜ r ≡ (bit (self .flags) w && ltb 0 (held (chan (stateOf self) c))) ⌝ }
     {
-        if enabled { self.holds_byte(c) } else { false }
+        let flags = self.flags;
+        if has_bit(flags, w) {
+            self.holds_byte(c)
+        } else {
+            false
+        }
     }
 
     fn host_irq(self) -> bool
         ensures { λ r. ⌜ r ≡ hostIrq (stateOf self) ⌝ }
     {
-        let flags = self.flags;
-        self.interrupts(flags.q, 7)
+        self.interrupts(Chip::FLAG_Q, 7)
     }
 
     fn parasite_irq(self) -> bool
         ensures { λ r. ⌜ r ≡ parasiteIrq (stateOf self) ⌝ }
     {
-        let flags = self.flags;
-        if self.interrupts(flags.i, 0) {
+        if self.interrupts(Chip::FLAG_I, 0) {
             true
         } else {
-            self.interrupts(flags.j, 6)
+            self.interrupts(Chip::FLAG_J, 6)
         }
     }
 
@@ -366,7 +381,11 @@ impl Chip {
         ensures { λ r. ⌜ r ≡ parasiteNmi (stateOf self) ⌝ }
     {
         let flags = self.flags;
-        if flags.m { self.n_flag() } else { false }
+        if has_bit(flags, Chip::FLAG_M) {
+            self.n_flag()
+        } else {
+            false
+        }
     }
 }
 
@@ -407,12 +426,16 @@ fn towards(side: u8, register: u8) -> usize
 }
 
 // The number of held bytes below which a write to channel `c` is taken.
-fn room_limit(flags: Flags, c: usize) -> u8
+fn room_limit(flags: u8, c: usize) -> u8
     requires { ⌜ c < 8 ⌝ }
     ensures { λ r. ⌜ r ≡ limit (flagsOf flags) c ⌝ }
 {
     if c / 2 == 2 {
-        if flags.v { CAPACITIES[c] } else { 1 }
+        if has_bit(flags, Chip::FLAG_V) {
+            CAPACITIES[c]
+        } else {
+            Chip::LATCH_CAPACITY
+        }
     } else {
         CAPACITIES[c]
     }
@@ -426,22 +449,10 @@ fn weight(set: bool, w: u8) -> u8
 }
 
 // Bits 5 to 0 of a status.
-fn low_bits(flags: Flags, register: u8) -> u8
+fn low_bits(flags: u8, register: u8) -> u8
     ensures { λ r. ⌜ (r ≡ low (flagsOf flags) register) × (r ≤ 63) ⌝ }
 {
-    if register == 0 { flag_bits(flags) } else { 63 }
-}
-
-// The flags in bits 5 to 0.
-fn flag_bits(f: Flags) -> u8
-    ensures { λ r. ⌜ (r ≡ flagBits (flagsOf f)) × (r ≤ 63) ⌝ }
-{
-    weight(f.p, 32)
-        + weight(f.v, 16)
-        + weight(f.m, 8)
-        + weight(f.j, 4)
-        + weight(f.i, 2)
-        + weight(f.q, 1)
+    if register == 0 { flags % 64 } else { 63 }
 }
 
 // Whether the bit of weight `w` is set in `x`.
@@ -452,25 +463,29 @@ fn has_bit(x: u8, w: u8) -> bool
     x / w % 2 == 1
 }
 
-// A flag after the control byte `x`, whose bit 7 says what it becomes if its own bit of weight `w` is set.
-fn flag_after(x: u8, w: u8, old: bool) -> bool
+// What the flag of weight `w` adds to the flags after the control byte `x`, whose bit 7 says what the flag becomes if its own bit is set.
+fn flag_after(x: u8, f: u8, w: u8) -> u8
     requires { ⌜ 0 < w ⌝ }
-    ensures { λ r. ⌜ r ≡ switched x w old ⌝ }
+    ensures { λ r. ⌜ (r ≡ weigh (switched x w (bit f w)) w) × (r ≤ w) ⌝ }
 {
-    if has_bit(x, w) { has_bit(x, 128) } else { old }
+    if has_bit(x, w) {
+        weight(has_bit(x, 128), w)
+    } else {
+        weight(has_bit(f, w), w)
+    }
 }
 
-fn flags_after(x: u8, f: Flags) -> Flags
-    ensures { λ r. ⌜ flagsOf r ≡ control x (flagsOf f) ⌝ }
+fn flags_after(x: u8, f: u8) -> u8
+    ensures { λ r. ⌜ Flags-after x f r ⌝ }
 {
-    Flags {
-        p: flag_after(x, 32, f.p),
-        v: flag_after(x, 16, f.v),
-        m: flag_after(x, 8, f.m),
-        j: flag_after(x, 4, f.j),
-        i: flag_after(x, 2, f.i),
-        q: flag_after(x, 1, f.q),
-    }
+    let spare = f / 64 * 64;
+    spare
+        + flag_after(x, f, Chip::FLAG_P)
+        + flag_after(x, f, Chip::FLAG_V)
+        + flag_after(x, f, Chip::FLAG_M)
+        + flag_after(x, f, Chip::FLAG_J)
+        + flag_after(x, f, Chip::FLAG_I)
+        + flag_after(x, f, Chip::FLAG_Q)
 }
 
 // Whether a control byte is the clear.

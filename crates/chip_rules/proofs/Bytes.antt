@@ -1,17 +1,17 @@
 -- Demand 2: over any history the bytes of a channel come out in the order in which they were taken, and none is lost but by a reset or clear.
 -- Each step keeps the ledger in order: a byte taken goes to the end of what is held, a byte removed was its front.
-use mathlib.Core.Path.{_≡_, refl, sym, ap, _∙_, subst}
-use mathlib.Core.Bool.{Bool, true, false, cond, not, _&&_}
+use mathlib.Core.Path.{_≡_, refl, sym, ap, _∙_}
+use mathlib.Core.Bool.{Bool, true, false, cond, _&&_}
 use mathlib.Core.List.{List, [], _∷_, _++_, append-assoc, append-nil}
-use Prim.Native.Nat.{ℕ, zero, suc, _+_, _*_, _/_, _%_, _<_, _≤_}
+use Prim.Native.Nat.{ℕ, zero, suc, _+_, _/_, _%_, _<_, _≤_}
 use native.Mathlib.Omega.{arith}
 use lib.Dec.{eqb, leb}
-use lib.ListN.{length, getD, set, replicate, length-set}
+use lib.ListN.{length, getD, replicate, length-set}
 use lib.Seq.{set-getD}
 use borrow.Author.Tests.{eqb-true, eqb-false, leb-true}
 use Rattle.chip_rules.specs.State.{Channel, empty, held, State, host, R1, fed, toward, chan, put, Access, Reply}
-use Rattle.chip_rules.specs.Rules.{Request, decode, exists, room, clears, emptied, isControl, control, controlled, fresh, takeOldest, append, Moved, step, perform}
-use Rattle.chip_rules.specs.History.{View, sound, broken, Event, accessed, wasReset, says, after, cleared, next, run, replies}
+use Rattle.chip_rules.specs.Rules.{Request, decode, exists, room, clears, emptied, control, fresh, takeOldest, append, step, perform}
+use Rattle.chip_rules.specs.History.{View, sound, broken, Event, accessed, wasReset, says, after, cleared, run, replies}
 use Rattle.chip_rules.specs.Bytes.{Ledger, opened, feeds, drains, isClear, entry, ledger, holds, Eight, empties, InOrder, Since}
 use Rattle.chip_rules.proofs.Laws.{and-true-both, request, by-none, by-side, chan-same, chan-other}
 

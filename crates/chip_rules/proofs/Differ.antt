@@ -1,7 +1,7 @@
 -- Every listed pair conflicts and differs, by computation: no case of document 01's list could be left out.
 use mathlib.Core.Path.{_≡_, refl}
-use mathlib.Core.Bool.{Bool, true, xor}
-use mathlib.Core.List.{List, map}
+use mathlib.Core.Bool.{true, xor}
+use mathlib.Core.List.{map}
 use lib.ListN.{length, replicate}
 use Rattle.chip_rules.specs.Rules.{capacity, room, nFlag, ready, low, status, control, clears, emptied, takeOldest, append, perform}
 use Rattle.chip_rules.specs.Conflict.{tight, requestsConflict}

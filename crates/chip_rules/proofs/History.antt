@@ -7,7 +7,7 @@ use Prim.Native.Nat.{ℕ}
 use native.Mathlib.Omega.{arith}
 use lib.Dec.{eqb}
 use borrow.Author.Tests.{eqb-true}
-use Rattle.chip_rules.specs.State.{State, host, parasite, Access, Reply}
+use Rattle.chip_rules.specs.State.{host, parasite, Access, Reply}
 use Rattle.chip_rules.specs.History.{View, sound, broken, Event, accessed, wasReset, says, after, lineValue, conflictAt, ofSide, next, run, replies, Swap, host-first, parasite-first, later, Swaps, none, more}
 use Rattle.chip_rules.specs.Trace.{Alike}
 use Rattle.chip_rules.proofs.Pair.{exchanged}
@@ -86,3 +86,13 @@ module _ {K : Type 0} (repaired : K → View K) where
       → Swap repaired v (before ++ (accessed h ∷ accessed p ∷ es)) (before ++ (accessed p ∷ accessed h ∷ es))
   swap-at v [] h p es eh ep m = host-first eh ep m
   swap-at v (e ∷ before) h p es eh ep m = later (swap-at (next repaired v e) before h p es eh ep m)
+
+  -- A history after another.
+  pub run-append : (v : View K) (es fs : List Event) → run repaired v (es ++ fs) ≡ run repaired (run repaired v es) fs
+  run-append v [] fs = refl
+  run-append v (e ∷ es) fs = run-append (next repaired v e) es fs
+
+  pub replies-append : (v : View K) (es fs : List Event) → replies repaired v (es ++ fs) ≡ replies repaired v es ++ replies repaired (run repaired v es) fs
+  replies-append v [] fs = refl
+  replies-append v (wasReset ∷ es) fs = replies-append (next repaired v wasReset) es fs
+  replies-append v (accessed a ∷ es) fs = ap (λ (rs : List Reply). says v a ∷ rs) (replies-append (after v a) es fs)

@@ -1,17 +1,17 @@
 -- What the theorems use of the chip's rules, and all that they use: a change of room, places, N or status is paid here.
 use mathlib.Core.Path.{_≡_, refl, sym, ap, _∙_}
 use mathlib.Core.Logic.{_≢_}
-use mathlib.Core.Bool.{Bool, true, false, not, cond, _&&_, _||_, true≢false}
-use mathlib.Core.List.{List, [], _∷_, _++_}
-use Prim.Native.Nat.{ℕ, zero, suc, _+_, _*_, _/_, _<_, _≤_}
+use mathlib.Core.Bool.{Bool, true, false, _&&_, _||_, true≢false}
+use mathlib.Core.List.{List, [], _∷_}
+use Prim.Native.Nat.{ℕ, zero, suc, _/_, _<_, _≤_}
 use native.Mathlib.Omega.{arith}
 use native.Mathlib.Decide.{decLt}
 use lib.Dec.{ltb, eqb}
-use lib.ListN.{length, getD, set, List·getD-eq-default}
+use lib.ListN.{length, List·getD-eq-default}
 use lib.Seq.{getD-set-same, getD-set-other, set-comm, set-set}
 use borrow.Author.Tests.{ltb-true, lt-ltb, ne-eqb, eqb-false}
-use Rattle.chip_rules.specs.State.{Channel, empty, held, Flags, State, host, parasite, R1, R3, fed, toward, chan, put, Access, Reply, Outcome, refused}
-use Rattle.chip_rules.specs.Rules.{Request, limit, capacity, room, nFlag, ready, low, status, statusOf, control, Moved, takeOldest, append, on, decode, exists, step, perform}
+use Rattle.chip_rules.specs.State.{Channel, empty, held, Flags, State, parasite, R1, R3, fed, toward, chan, put, Access, refused}
+use Rattle.chip_rules.specs.Rules.{Request, limit, room, ready, low, status, statusOf, control, Moved, takeOldest, append, on, decode, exists, step, perform}
 use Rattle.chip_rules.specs.Conflict.{tight, tightAt}
 
 -- Tests joined.

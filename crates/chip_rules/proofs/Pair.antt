@@ -2,14 +2,14 @@
 -- The host's comes first by its kind, then the parasite's; each row stands on a law of `Laws`, and none on an offset.
 use mathlib.Core.Path.{_≡_, refl, sym, ap, _∙_, subst}
 use mathlib.Core.Logic.{_≢_}
-use mathlib.Core.Bool.{Bool, true, false, cond, not, xor, _&&_, _||_, true≢false}
-use Prim.Native.Nat.{ℕ, _+_, _*_, _/_, _%_, _<_, _≤_}
+use mathlib.Core.Bool.{Bool, true, false, xor, _||_}
+use Prim.Native.Nat.{ℕ, _/_, _%_, _≤_}
 use native.Mathlib.Omega.{arith}
 use lib.Dec.{eqb}
 use borrow.Author.Tests.{eqb-true, eqb-false, ne-eqb}
-use Rattle.chip_rules.specs.State.{Channel, State, host, parasite, R1, R3, fed, toward, chan, put, Access, Reply, refused}
-use Rattle.chip_rules.specs.Rules.{Request, decode, exists, room, statusOf, control, controlled, clears, emptied, isControl, Moved, takeOldest, append, channelOf, move, on, step, perform}
-use Rattle.chip_rules.specs.Conflict.{tightAt, readsStatus, seesFlags, requestsConflict, conflict}
+use Rattle.chip_rules.specs.State.{Channel, State, host, parasite, R1, R3, fed, toward, chan, put, Access, Reply}
+use Rattle.chip_rules.specs.Rules.{Request, decode, exists, room, statusOf, control, clears, takeOldest, append, channelOf, move, step, perform}
+use Rattle.chip_rules.specs.Conflict.{tightAt, requestsConflict, conflict}
 use Rattle.chip_rules.proofs.Laws.{request, by-side, by-none, or-false-both, and-false-right, agree-flip, room-control, status-control, Agree, agree-apart, agree-channel, status-other}
 
 record Commutes (s : State) (h p : Request) : Type 0 where

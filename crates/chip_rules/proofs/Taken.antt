@@ -1,16 +1,15 @@
 -- A data write not refused with 1 is taken exactly when there is room, and bit 6 of the status says so: the bits below it sum to 63 at most.
-use mathlib.Core.Path.{_≡_, refl, sym, ap, _∙_}
-use mathlib.Core.Bool.{Bool, true, false, cond, _&&_}
-use mathlib.Core.List.{[], _∷_, _++_}
-use Prim.Native.Nat.{ℕ, _+_, _-_, _*_, _/_, _%_, _<_, _≤_}
+use mathlib.Core.Path.{_≡_, refl, ap}
+use mathlib.Core.Bool.{Bool, true, false, cond}
+use Prim.Native.Nat.{ℕ, _+_, _-_, _/_, _%_, _≤_}
 use native.Mathlib.Omega.{arith}
 use lib.Dec.{eqb, leb}
 use borrow.Author.Tests.{eq-eqb, eqb-true, leb-true, le-leb, ne-eqb}
 use Rattle.chip_rules.specs.State.{Flags, State, R1, fed, toward, chan, held, Access, Channel, Outcome}
-use Rattle.chip_rules.specs.Rules.{Request, decode, exists, room, ready, weigh, flagBits, low, status, statusOf, bit, append, step, perform}
+use Rattle.chip_rules.specs.Rules.{decode, exists, room, ready, weigh, flagBits, low, status, statusOf, bit, append, perform}
 use Rattle.chip_rules.specs.History.{View, sound, broken, says, after}
 use Rattle.chip_rules.specs.Bytes.{statusRead, roomFor, TakenWhenRoom}
-use Rattle.chip_rules.proofs.Laws.{and-true-both, by-side, by-none, request}
+use Rattle.chip_rules.proofs.Laws.{and-true-both, by-side, by-none}
 
 weigh-most : (t : Bool) (w : ℕ) → weigh t w ≤ w
 weigh-most true w = omega arith

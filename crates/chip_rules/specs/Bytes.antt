@@ -5,9 +5,9 @@ use mathlib.Core.Bool.{Bool, true, false, cond, not, _&&_}
 use mathlib.Core.List.{List, [], _∷_, _++_}
 use lib.ListN.{length}
 use lib.Dec.{eqb}
-use Rattle.chip_rules.specs.State.{Channel, empty, held, State, fed, toward, chan, Access, Reply}
+use Rattle.chip_rules.specs.State.{Channel, empty, held, fed, toward, chan, Access, Reply}
 use Rattle.chip_rules.specs.Rules.{Request, decode, room, bit, clears, isControl}
-use Rattle.chip_rules.specs.History.{View, sound, broken, Event, accessed, wasReset, says, run, replies}
+use Rattle.chip_rules.specs.History.{View, sound, broken, Event, accessed, wasReset, says}
 
 -- The bytes held at the start, those taken since and those removed since; all three start anew at a reset or clear.
 pub record Ledger : Type 0 where

@@ -4,7 +4,7 @@ use Prim.Native.Nat.{ℕ}
 use mathlib.Core.Bool.{Bool, true, false}
 use mathlib.Core.List.{List, [], _∷_}
 use lib.ListN.{set}
-use Rattle.chip_rules.specs.State.{Channel, Flags, State, host, parasite, R1, R2, R3, R4, fed, Access}
+use Rattle.chip_rules.specs.State.{Channel, Flags, State, host, parasite, R1, R3, fed, Access}
 use Rattle.chip_rules.specs.Rules.{perform, lines, fresh, emptied, noFlags}
 
 pub record Row : Type 0 where

@@ -2,7 +2,7 @@
 -- Some listed pairs never differ in either order (control with a parasite R3 data read or R3 status write, the clear with a
 -- parasite status write); they stand here because document 01 lists them, and no theorem needs them.
 use Prim.Native.Nat.{ℕ, zero, suc}
-use mathlib.Core.Bool.{Bool, true, false, not, xor, _&&_, _||_}
+use mathlib.Core.Bool.{Bool, true, not, xor, _&&_, _||_}
 use lib.Dec.{eqb}
 use Rattle.chip_rules.specs.State.{held, State, host, parasite, R1, R3, chan, Access}
 use Rattle.chip_rules.specs.Rules.{Request, decode, exists, room, clears, isControl, channelOf}

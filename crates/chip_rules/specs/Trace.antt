@@ -1,18 +1,17 @@
 -- A history done by the program: a chain of steps, each of which is the promise that the program's own access or reset makes.
-use Prim.Native.Nat.{ℕ}
 use mathlib.Core.Path.{_≡_}
 use mathlib.Core.List.{List, [], _∷_}
 use Rattle.chip_rules.specs.State.{host, parasite, Access, Reply}
-use Rattle.chip_rules.specs.History.{View, Event, accessed, wasReset, lineValue, ofSide, says, after, cleared}
+use Rattle.chip_rules.specs.History.{View, Event, accessed, wasReset, lineValue, ofSide}
 
--- K: the chip record. R: what access returns, with its reply and the record left.
--- Access-promise and Reset-promise: the very predicates of the two functions' contracts.
-module _ {K R : Type 0} (Access-promise : K → Access → R → Type 0) (Reset-promise : K → K → Type 0) (reply : R → Reply) (left : R → K) where
+-- K: the chip record. Access-promise, of a record, an access, the reply and the record left, and Reset-promise, of a record and the
+-- one left, are the very predicates of the two functions' contracts.
+module _ {K : Type 0} (Access-promise : K → Access → Reply → K → Type 0) (Reset-promise : K → K → Type 0) where
   -- "Each access or reset gets the chip that the last one left, and nobody else writes it meanwhile."
   pub data Trace : K → List Event → List Reply → K → Type 0 where
     stop : {k : K} → Trace k [] [] k
-    access : {k l : K} {a : Access} {r : R} {es : List Event} {rs : List Reply}
-        → Access-promise k a r → Trace (left r) es rs l → Trace k (accessed a ∷ es) (reply r ∷ rs) l
+    access : {k j l : K} {a : Access} {r : Reply} {es : List Event} {rs : List Reply}
+        → Access-promise k a r j → Trace j es rs l → Trace k (accessed a ∷ es) (r ∷ rs) l
     reset : {k j l : K} {es : List Event} {rs : List Reply}
         → Reset-promise k j → Trace j es rs l → Trace k (wasReset ∷ es) rs l
 

@@ -1,39 +1,66 @@
--- Flag by flag.
-use Rattle.chip_rules.specs.Rules.{control}
+-- The six weights summed are the rules' flags, and what lies above them is kept.
+use Rattle.chip.proofs.Bits.{flags-after}
 use borrow.Author.Needs.{needs}
 use Rattle.chip.proofs.flags_after.Statement.{statement}
 use Rattle.chip.proofs.flags_after.Tie as tie
 
+mul-spare : tie.Need-mul-spare
+mul-spare c = search needs
+
 flag-after-requires : tie.Need-flag-after-requires
 flag-after-requires c κs = search needs
+
+add-result : tie.Need-add-result
+add-result c = search needs
 
 flag-after-requires-2 : tie.Need-flag-after-requires-2
 flag-after-requires-2 c κs = search needs
 
+add-result-2 : tie.Need-add-result-2
+add-result-2 c = search needs
+
 flag-after-requires-3 : tie.Need-flag-after-requires-3
 flag-after-requires-3 c κs = search needs
+
+add-result-3 : tie.Need-add-result-3
+add-result-3 c = search needs
 
 flag-after-requires-4 : tie.Need-flag-after-requires-4
 flag-after-requires-4 c κs = search needs
 
+add-result-4 : tie.Need-add-result-4
+add-result-4 c = search needs
+
 flag-after-requires-5 : tie.Need-flag-after-requires-5
 flag-after-requires-5 c κs = search needs
+
+add-result-5 : tie.Need-add-result-5
+add-result-5 c = search needs
 
 flag-after-requires-6 : tie.Need-flag-after-requires-6
 flag-after-requires-6 c κs = search needs
 
+add-result-6 : tie.Need-add-result-6
+add-result-6 c = search needs
+
 returns : tie.Need-returns
-unfolding control
-returns c = cc
+returns c = rw (c .before .before .before .before .before .flag-after .ensures .0, c .before .before .before .before .flag-after2 .ensures .0, c .before .before .before .flag-after3 .ensures .0, c .before .before .flag-after4 .ensures .0, c .before .flag-after5 .ensures .0, c .flag-after6 .ensures .0) (flags-after (c .before .before .before .before .before .before .args .x) (c .before .before .before .before .before .before .args .f))
 
 pub flags-after-spec : {M : Type 1} → statement M
 flags-after-spec =
     tie.close
     (tie.spec
+    mul-spare
     flag-after-requires
+    add-result
     flag-after-requires-2
+    add-result-2
     flag-after-requires-3
+    add-result-3
     flag-after-requires-4
+    add-result-4
     flag-after-requires-5
+    add-result-5
     flag-after-requires-6
+    add-result-6
     returns)

@@ -5,6 +5,9 @@ use borrow.Author.Needs.{needs}
 use Rattle.chip.proofs.room_limit.Statement.{statement}
 use Rattle.chip.proofs.room_limit.Tie as tie
 
+has-bit-requires : tie.Need-has-bit-requires
+has-bit-requires c κs = search needs
+
 array-read-result : tie.Need-array-read-result
 array-read-result c = search needs
 
@@ -13,11 +16,11 @@ array-read-result-2 c = search needs
 
 returns : tie.Need-returns
 unfolding capacity
-returns c = rw (eq-eqb _ _ (c .before .if1 .taken), c .if2 .taken)
+returns c = rw (eq-eqb _ _ (c .before .before .if1 .taken), ← c .before .has-bit .ensures, c .if2 .taken)
 
 returns-2 : tie.Need-returns-2
 unfolding capacity
-returns-2 c = rw (eq-eqb _ _ (c .before .if1 .taken), c .if2 .left)
+returns-2 c = rw (eq-eqb _ _ (c .before .before .if1 .taken), ← c .before .has-bit .ensures, c .if2 .left)
 
 returns-3 : tie.Need-returns-3
 unfolding capacity
@@ -25,4 +28,5 @@ returns-3 c = rw (ne-eqb _ _ (c .if1 .left))
 
 pub room-limit-spec : {M : Type 1} → statement M
 room-limit-spec =
-    tie.close (tie.spec array-read-result array-read-result-2 returns returns-2 returns-3)
+    tie.close
+    (tie.spec has-bit-requires array-read-result array-read-result-2 returns returns-2 returns-3)

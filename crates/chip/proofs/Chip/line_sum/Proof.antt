@@ -28,6 +28,9 @@ weight-requires-3 c κs = search needs
 add-result-2 : tie.Need-add-result-2
 add-result-2 c = search needs
 
+has-bit-requires : tie.Need-has-bit-requires
+has-bit-requires c κs = search needs
+
 weight-requires-4 : tie.Need-weight-requires-4
 weight-requires-4 c κs = search needs
 
@@ -36,7 +39,7 @@ add-result-3 c = search needs
 
 returns : tie.Need-returns
 unfolding lines
-returns c = rw (c .before .before .before .before .before .weight .ensures .0, c .before .before .before .before .before .before .host-irq .ensures, c .before .before .before .weight2 .ensures .0, c .before .before .before .before .parasite-irq .ensures, c .before .weight3 .ensures .0, c .before .before .parasite-nmi .ensures, c .weight4 .ensures .0)
+returns c = rw (c .before .before .before .before .before .before .weight .ensures .0, c .before .before .before .before .before .before .before .host-irq .ensures, c .before .before .before .before .weight2 .ensures .0, c .before .before .before .before .before .parasite-irq .ensures, c .before .before .weight3 .ensures .0, c .before .before .before .parasite-nmi .ensures, c .weight4 .ensures .0, c .before .has-bit .ensures)
 
 pub line-sum-spec : {M : Type 1} → statement M
 line-sum-spec =
@@ -50,6 +53,7 @@ line-sum-spec =
     parasite-nmi-requires
     weight-requires-3
     add-result-2
+    has-bit-requires
     weight-requires-4
     add-result-3
     returns)

@@ -17,26 +17,26 @@ array-read-at : tie.Need-array-read-at
 array-read-at c = search needs
 
 cast-at : tie.Need-cast-at
-cast-at c = let w = known (c .before .before .before) in omega arith
+cast-at c = let w = known (c .before .before) in omega arith
 
 cast-at-2 : tie.Need-cast-at-2
 cast-at-2 c = search needs
 
 add-at : tie.Need-add-at
-add-at c = let w = known (c .before .before .before) in omega arith
+add-at c = let w = known (c .before .before) in omega arith
 
 array-write-bytes : tie.Need-array-write-bytes
-array-write-bytes c = let w = known (c .before .before .before) in omega (arith, c .before .before .before .pre .2)
+array-write-bytes c = let w = known (c .before .before) in omega (arith, c .before .before .pre .2)
 
 add-held : tie.Need-add-held
-add-held c = let w = known (c .before .before .before) in omega arith
+add-held c = let w = known (c .before .before) in omega arith
 
 array-write-held : tie.Need-array-write-held
 array-write-held c = search needs
 
 returns : tie.Need-returns
 returns c =
-    let s = c .before .before .before in
+    let s = c .before .before in
     let l : length (s .args .self .bytes) ≡ 24 = search needs in
     let e : length (s .args .self .held) ≡ 8 = search needs in
     put-done (s .args .self) (s .args .c) (s .pre .0) (s .pre .1) e l (s .args .b) (s .pre .2)
