@@ -1,0 +1,63 @@
+/* The Tube chip and the script player, proved in Rattle. Link libtube.a and libboard.a (`rt staticlib tube`, `rt staticlib board`).
+ *
+ * Every function is total: any side, offset, operation, byte and any bytes in a record are answered by number. The caller's own duty
+ * is what C cannot say: a pointer points to a whole record or to as many bytes as its length says, no pointer is null (an empty
+ * buffer has length 0 and any valid pointer), and buffers lent to one call do not overlap. */
+#ifndef TUBE_H
+#define TUBE_H
+#include <stddef.h>
+#include <stdint.h>
+
+/* Channels are numbered register by register, host-to-parasite first: 0 is host-to-parasite R1, 1 parasite-to-host R1, .., 7
+ * parasite-to-host R4. The bytes of channel c start at tube_start[c] of `bytes`, oldest first, and held[c] counts them. The flags
+ * P V M J I Q are bits 5 to 0 of `flags`; its bits 7 and 6, and bytes that are not held, stand for nothing. */
+typedef struct {
+    uint8_t bytes[24];
+    uint8_t held[8];
+    uint8_t flags;
+} TubeChip;
+
+static const uint8_t tube_start[8] = {0, 9, 1, 2, 3, 5, 7, 8};
+static const uint8_t tube_capacity[8] = {1, 10, 1, 1, 2, 2, 1, 1};
+
+enum { TUBE_HOST = 0, TUBE_PARASITE = 1 };
+enum { TUBE_READ = 0, TUBE_WRITE = 1 }; /* any number but 0 writes */
+enum {
+    TUBE_DONE = 0,
+    TUBE_MISSING = 1,       /* no such side or offset, or a record that holds more than its capacities */
+    TUBE_NO_ROOM = 2,       /* data write to a channel without room */
+    TUBE_EMPTY = 3,         /* data read of an empty channel */
+    TUBE_BUFFER_SHORT = 8,  /* results of a script do not fit: nothing was played */
+    TUBE_LIMIT_REACHED = 10,
+    TUBE_CUT_SHORT = 11     /* a script that ends inside a record */
+};
+
+typedef struct {
+    uint8_t answer;
+    uint8_t byte; /* 0 unless a read was done */
+} TubeReply;
+
+/* One access to the chip lent. On every answer but 0 the chip is unchanged. */
+TubeReply tube_access(TubeChip *chip, uint8_t side, uint8_t offset, uint8_t operation, uint8_t byte);
+
+/* A fresh chip; a reset of any record gives the same. */
+TubeChip tube_new(void);
+TubeChip tube_reset(TubeChip chip);
+
+/* The line value: host IRQ 1, parasite IRQ 2, parasite NMI 4, parasite reset 8; 0 for a record that holds more than its capacities. */
+uint8_t tube_lines(TubeChip chip);
+
+typedef struct {
+    size_t played;
+    uint8_t answer;
+    TubeChip chip;
+} TubePlayed;
+
+/* Plays at most `limit` records of three bytes (kind, offset, byte); three result bytes (answer, byte, line value) for each go
+ * into `results`. */
+TubePlayed tube_play(TubeChip chip, const uint8_t *script, size_t script_length, size_t limit, uint8_t *results, size_t results_length);
+
+/* The text of `played` results and the last line, written into `out`: its length, or 0 with nothing written where it does not fit. */
+size_t tube_text(const uint8_t *results, size_t results_length, size_t played, uint8_t answer, uint8_t *out, size_t out_length);
+
+#endif
