@@ -108,16 +108,16 @@ within chip k small ok = record { count = held-is chip k small; most = fits chip
 pub shift-none : (bs : List ℕ) (s : ℕ) → Shifted bs s s bs
 shift-none bs s = record { moved = λ p a b. absurd (omega arith); others = λ p f. refl }
 
-pub shift-more : (bs out : List ℕ) (s i : ℕ) → s ≤ i → i < length out → Shifted bs s i out → Shifted bs s (i + 1) (set out i (getD bs (i + 1) 0))
+pub shift-more : (bs out : List ℕ) (s i : ℕ) → s ≤ i → i < length out → Shifted bs s i out → Shifted bs s (i + 1) (set out i (getD out (i + 1) 0))
 shift-more bs out s i m h t =
     record {
       moved = λ p a b. at p a b (ℕ-discrete p i);
-      others = λ p f. getD-set-other out i p (getD bs (i + 1) 0) 0 (λ e. f (omega arith) (omega arith)) ∙ t .others p (λ a b. f a (omega arith));
+      others = λ p f. getD-set-other out i p (getD out (i + 1) 0) 0 (λ e. f (omega arith) (omega arith)) ∙ t .others p (λ a b. f a (omega arith));
     }
   where
-    at : (p : ℕ) → s ≤ p → p < i + 1 → Dec (p ≡ i) → getD (set out i (getD bs (i + 1) 0)) p 0 ≡ getD bs (p + 1) 0
-    at p a b (yes e) = rw e (getD-set-same out i (getD bs (i + 1) 0) 0 h)
-    at p a b (no d) = getD-set-other out i p (getD bs (i + 1) 0) 0 d ∙ t .moved p a (omega arith)
+    at : (p : ℕ) → s ≤ p → p < i + 1 → Dec (p ≡ i) → getD (set out i (getD out (i + 1) 0)) p 0 ≡ getD bs (p + 1) 0
+    at p a b (yes e) = rw e (getD-set-same out i (getD out (i + 1) 0) 0 h ∙ t .others (i + 1) (λ a b. omega arith))
+    at p a b (no d) = getD-set-other out i p (getD out (i + 1) 0) 0 d ∙ t .moved p a (omega arith)
 
 module _ (chip : Chip) (k : ℕ) (small : k < 8) (ok : validOf chip ≡ true) (eight : length (chip .held) ≡ 8) (long : length (chip .bytes) ≡ 24) where
   n : ℕ

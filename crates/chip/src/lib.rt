@@ -507,7 +507,7 @@ fn shifted(bytes: [u8; 24], first: usize, last: usize) -> [u8; 24]
     let mut out = bytes;
     let mut i = first;
     while i < last {
-        out[i] = bytes[i + 1];
+        out[i] = out[i + 1];
         i += 1;
     }
     out

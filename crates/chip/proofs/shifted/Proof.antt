@@ -10,10 +10,10 @@ use Rattle.chip.proofs.shifted.Statement.{statement}
 use Rattle.chip.proofs.shifted.Tie as tie
 
 abbrev Inv-loop : tie.InvT-loop
-Inv-loop first last bytes out₀ i₀ out i = (first ≤ i) × (i ≤ last) × (length out ≡ 24) × Shifted bytes first i out
+Inv-loop first last out₀ i₀ out i = (first ≤ i) × (i ≤ last) × (length out ≡ 24) × Shifted out₀ first i out
 
 abbrev μ-loop : tie.MeasureT-loop
-μ-loop first last bytes out₀ i₀ out i = last - i
+μ-loop first last out₀ i₀ out i = last - i
 
 loop-holds : tie.Need-loop-holds Inv-loop μ-loop
 loop-holds c = (omega arith, omega arith, search needs, shift-none _ _)
@@ -34,7 +34,10 @@ loop-less : tie.Need-loop-less Inv-loop μ-loop
 loop-less c = search needs
 
 loop-again : tie.Need-loop-again Inv-loop μ-loop
-loop-again c = (omega arith, omega arith, search needs, shift-more (c .before .before .args .t1) (c .before .loop .out) (c .before .before .args .first) (c .before .loop .i) (omega arith) (omega arith) (c .before .loop .inv .3))
+loop-again c =
+    let s = c .before .before .args in
+    let l = c .before .loop in
+    (omega arith, omega arith, search needs, shift-more (s .bytes) (l .out) (s .first) (l .i) (omega arith) (omega arith) (l .inv .3))
 
 returns : tie.Need-returns Inv-loop μ-loop
 returns c = let n : c .before .loop .i ≡ c .before .before .args .last = omega arith in rw n at (c .before .loop .inv .3)
