@@ -7,7 +7,7 @@ use native.Mathlib.Nat.{mul-add-div, div-eq-of-lt}
 use native.Mathlib.Omega.{arith}
 use borrow.Author.Tests.{eq-eqb, ne-eqb, eqb-true, eqb-false}
 use Rattle.chip.specs.Record.{flagsOf}
-use Rattle.chip.specs.Promise.{Flags-after}
+use Rattle.chip.specs.Steps.{Flags-after}
 use Rattle.chip_rules.specs.Rules.{bit, weigh, switched, control, flagBits}
 
 -- a bit as a number

@@ -13,8 +13,8 @@ use native.Mathlib.Decide.{ℕ-discrete}
 use borrow.Author.Tests.{leb-true, le-leb, ne-eqb}
 use Rattle.chip.specs.declared.Chip.{Chip}
 use Rattle.chip.specs.Each.{each, every}
-use Rattle.chip.specs.Record.{starts, placeOf, contents, stateOf, validOf, Free, Shifted}
-use Rattle.chip.specs.Promise.{Put-done, Take-done}
+use Rattle.chip.specs.Record.{starts, placeOf, contents, stateOf, validOf, Free}
+use Rattle.chip.specs.Steps.{Shifted, Put-done, Take-done}
 use Rattle.chip_rules.specs.State.{held, chan, put}
 use Rattle.chip_rules.specs.Rules.{capacity}
 use Rattle.chip.proofs.Each.{each-at, each-length, each-same, each-snoc, each-set, every-at, every-true}

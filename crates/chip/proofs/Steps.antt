@@ -13,7 +13,8 @@ use Rattle.chip.specs.declared.Taken.{Taken}
 use Rattle.chip.specs.declared.Accessed.{Accessed}
 use Rattle.chip.specs.declared.Answer.the-variants.{Done, NoRoom, Empty}
 use Rattle.chip.specs.Record.{flagsOf, stateOf, validOf}
-use Rattle.chip.specs.Promise.{Unused-kept, Flags-after, replyOf, Access-done, Step-done, Put-done, Take-done, Control-done}
+use Rattle.chip.specs.Promise.{Unused-kept, replyOf, Access-done}
+use Rattle.chip.specs.Steps.{Flags-after, Step-done, Put-done, Take-done, Control-done}
 use Rattle.chip_rules.specs.State.{Channel, State, Outcome, R3, held, chan, put, Access, done}
 use Rattle.chip_rules.specs.Rules.{bit, capacity, room, limit, decode, exists, clears, emptied, controlled, takeOldest, append, on, step, perform}
 use Rattle.chip_rules.specs.History.{View, sound}

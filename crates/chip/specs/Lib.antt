@@ -1,3 +1,4 @@
 pub mod Each
 pub mod Record
 pub mod Promise
+pub mod Steps

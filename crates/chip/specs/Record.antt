@@ -1,5 +1,5 @@
 -- How the chip record stores the state that the rules speak of: the one place where its layout shows.
-use Prim.Native.Nat.{ℕ, _+_, _<_, _≤_}
+use Prim.Native.Nat.{ℕ, _+_, _<_}
 use mathlib.Core.Path.{_≡_}
 use mathlib.Core.Bool.{Bool, cond}
 use mathlib.Core.List.{List, [], _∷_}
@@ -50,8 +50,3 @@ repaired chip = sound fresh
 -- place p of the array is free: no byte held lies there
 abbrev pub Free : Chip → ℕ → Type 0
 Free chip p = (c i : ℕ) → c < 8 → i < getD (chip .held) c 0 → placeOf c i ≡ p → ⊥
-
--- each byte from place s up to place e is replaced by the one after it, and no other is changed
-pub record Shifted (bytes : List ℕ) (s e : ℕ) (r : List ℕ) : Type 0 where
-  pub moved : (p : ℕ) → s ≤ p → p < e → getD r p 0 ≡ getD bytes (p + 1) 0
-  pub others : (p : ℕ) → (s ≤ p → p < e → ⊥) → getD r p 0 ≡ getD bytes p 0

@@ -6,8 +6,9 @@ ghost use lib.Dec.{leb, ltb, eqb};
 ghost use Rattle.chip_rules.specs.State.{held, fed, toward, chan, done, host, R1, R3};
 ghost use Rattle.chip_rules.specs.Rules.{decode, capacity, limit, room, nFlag, ready, weigh, low, statusOf, bit, switched, control, clears, controlled, hostIrq, parasiteIrq, parasiteNmi, lines, takeOldest, append, on, step};
 ghost use Rattle.chip_rules.specs.History.{lineValue};
-ghost use Rattle.chip.specs.Record.{flagsOf, stateOf, validOf, view, blank, Shifted};
-ghost use Rattle.chip.specs.Promise.{number, accessOf, replyOf, told, Flags-after, Access-done, Reset-done, Step-done, Put-done, Take-done, Control-done};
+ghost use Rattle.chip.specs.Record.{flagsOf, stateOf, validOf, view, blank};
+ghost use Rattle.chip.specs.Promise.{number, accessOf, replyOf, Access-done, Reset-done};
+ghost use Rattle.chip.specs.Steps.{Shifted, told, Flags-after, Step-done, Put-done, Take-done, Control-done};
 
 // The bytes of channel c lie in its part of `bytes`, oldest first, and `held[c]` counts them. Channels are numbered register by
 // register, host-to-parasite first; the part of parasite-to-host R1 lies last. The flags P V M J I Q are bits 5 to 0 of `flags`;

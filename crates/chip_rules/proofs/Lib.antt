@@ -6,3 +6,5 @@ pub mod Trace
 pub mod Bytes
 pub mod Taken
 pub mod Differ
+pub mod Control
+pub mod Answers

@@ -6,3 +6,4 @@ pub mod Bytes
 pub mod Trace
 pub mod Cases
 pub mod Differ
+pub mod Answers

@@ -28,7 +28,8 @@ unfoldable pub capacity : ℕ → ℕ
 capacity c = getD capacities c 0
 
 -- "Room in R3: flag V = 0, only when empty; V = 1, when it holds fewer than two. Elsewhere room means fewer bytes than places."
--- a write to channel c is taken while fewer bytes than this are held
+-- A write to channel c is taken while fewer bytes than this are held. "Clearing V with two bytes held loses nothing: both can be read, and
+-- there is no room until both have gone" (theorem `no-room-until-empty`).
 abbrev pub limit : Flags → ℕ → ℕ
 limit f c = cond (eqb (c / 2) R3 && not (f .v)) 1 (capacity c)
 
@@ -119,7 +120,7 @@ parasiteIrq s = (s .flags .i && ltb 0 (held (chan s (fed host R1)))) || (s .flag
 abbrev pub parasiteNmi : State → Bool
 parasiteNmi s = s .flags .m && nFlag (s .flags) (held (chan s (fed host R3)))
 
--- Parasite reset (8): P. The sum of the numbers is the line value."
+-- Parasite reset (8): P. The sum of the numbers is the line value. A line is a fact about the state, never remembered."
 unfoldable pub lines : State → ℕ
 lines s = weigh (hostIrq s) 1 + weigh (parasiteIrq s) 2 + weigh (parasiteNmi s) 4 + weigh (s .flags .p) 8
 

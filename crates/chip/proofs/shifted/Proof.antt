@@ -1,6 +1,6 @@
 -- The loop has moved the bytes up to `i` and no others.
 use Rattle.chip.proofs.Parts.{shift-none, shift-more}
-use Rattle.chip.specs.Record.{Shifted}
+use Rattle.chip.specs.Steps.{Shifted}
 use lib.ListN.{length}
 use borrow.Author.Needs.{needs}
 use native.Mathlib.Omega.{arith}
