@@ -1,15 +1,33 @@
 -- Every case of the table comes out as it is written down: each part of the table by the theorem of the crate that it is from.
-use mathlib.Core.Path.{_≡_, refl, ap, _∙_}
-use mathlib.Core.List.{List, [], _∷_, map}
+use mathlib.Core.Path.{_≡_, refl, ap, ap₂, _∙_}
+use mathlib.Core.List.{List, [], _∷_, _++_, map}
 use Rattle.chip_rules.specs.Cases as chip
 use Rattle.chip_rules.proofs.Cases as chip-proofs
-use Rattle.cases.specs.Table.{Case, chip-case, worked, table}
+use Rattle.serial_rules.specs.Cases as serial
+use Rattle.serial_rules.proofs.Cases as serial-proofs
+use Rattle.cases.specs.Table.{Case, chip-case, request-case, worked, table}
 
-chip-cases : (l : List chip.Case) → map worked (map chip-case l) ≡ map chip-case (map chip.worked l)
+-- the cases of one crate, worked before or after they are joined
+part : {K : Type 0} (f : K → K) (c : K → Case) → ((k : K) → worked (c k) ≡ c (f k)) → (l : List K) → map worked (map c l) ≡ map c (map f l)
+part f c h [] = refl
+part f c h (k ∷ l) = ap₂ (λ (x : Case) (z : List Case). x ∷ z) (h k) (part f c h l)
+
+map-append : (l m : List Case) → map worked (l ++ m) ≡ map worked l ++ map worked m
+map-append [] m = refl
+map-append (k ∷ l) m = ap (λ (z : List Case). worked k ∷ z) (map-append l m)
+
+chip-worked : (k : chip.Case) → worked (chip-case k) ≡ chip-case (chip.worked k)
 unfolding worked
-chip-cases [] = refl
-chip-cases (k ∷ l) = ap (λ (z : List Case). chip-case (chip.worked k) ∷ z) (chip-cases l)
+chip-worked k = refl
+
+request-worked : (k : serial.Case) → worked (request-case k) ≡ request-case (serial.worked k)
+unfolding worked
+request-worked k = refl
 
 pub every-case : map worked table ≡ table
 unfolding table
-every-case = chip-cases chip.cases ∙ ap (map chip-case) chip-proofs.every-case
+every-case =
+    map-append (map chip-case chip.cases) (map request-case serial.cases)
+    ∙ ap₂ (λ (x y : List Case). x ++ y)
+    (part chip.worked chip-case chip-worked chip.cases ∙ ap (map chip-case) chip-proofs.every-case)
+    (part serial.worked request-case request-worked serial.cases ∙ ap (map request-case) serial-proofs.every-case)

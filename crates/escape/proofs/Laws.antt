@@ -1,0 +1,95 @@
+-- Writes one after the other are one write; the raw bytes of one data byte and of one more; what `write_data` promises.
+use Prim.Native.Nat.{ℕ, _+_, _-_, _≤_, _<_}
+use native.Mathlib.Numerals.{add-one}
+use native.Mathlib.Omega.{arith}
+use mathlib.Core.Path.{_≡_, refl, sym, ap, _∙_}
+use mathlib.Core.List.{List, [], _∷_, _++_, append-assoc, append-nil}
+use lib.ListN.{length, take, drop, getD, set, length-append, length-drop, length-take, drop-of-length-le, take-append-drop}
+use lib.Seq.{take-at, drop-at, drop-drop, take-suc, take-all}
+use borrow.Author.Tests.{eq-eqb, ne-eqb, le-leb, lt-leb}
+use Rattle.serial_rules.specs.Escape.{escape, escaped}
+use Rattle.serial_rules.proofs.Escape.{escaped-append, escaped-one}
+use Rattle.escape.specs.declared.Written.{Written}
+use Rattle.escape.specs.declared.Written.the-variants.{Done, NoRoom}
+use Rattle.escape.specs.Layer.{count, fits, Data-done}
+use Rattle.escape.specs.Put.{over, Put}
+
+-- nothing written
+pub put-none : {out : List ℕ} → Put [] out out 0
+put-none = record { count = refl; bytes = refl; room = omega arith }
+
+-- a write keeps the number of lent bytes
+pub put-length : {w out left : List ℕ} {n : ℕ} → Put w out left n → length left ≡ length out
+put-length p = rw (p .bytes, length-append, length-drop) (omega (arith, p .count, p .room))
+
+-- the written bytes by another name
+pub put-as : {w v out left : List ℕ} {n : ℕ} → w ≡ v → Put w out left n → Put v out left n
+put-as e p = rw e at p
+
+-- Writes compose: p at the start of `out`, which left `mid`, then w at the start of the tail `&mut mid[at..]`, which was lent and came
+-- back as `back`.
+pub put-tail : {p w out mid back : List ℕ} {at n : ℕ} → Put p out mid at → Put w (take (length mid - at) (drop at mid)) back n
+    → Put (p ++ w) out (take at mid ++ (back ++ drop (length mid - at) (drop at mid))) (at + n)
+put-tail {p} {w} {out} {mid} {back} {at} {n} a b =
+    let short : length (drop at mid) ≤ length mid - at = simp length-drop (omega arith) in
+    let front : take at mid ≡ p = rw (a .bytes) (take-at p _ at (sym (a .count))) in
+    let tail : drop at mid ≡ drop at out = rw (a .bytes) (drop-at p _ at (sym (a .count)) ∙ ap (λ (m : ℕ). drop m out) (sym (a .count))) in
+    let all : take (length mid - at) (drop at mid) ≡ drop at out = take-all _ _ short ∙ tail in
+    let part : back ≡ w ++ drop (at + length w) out = b .bytes ∙ rw (all, drop-drop) in
+    record {
+      count = rw (length-append, ← a .count, ← b .count);
+      bytes = rw (front, part, drop-of-length-le _ short, append-nil, append-assoc, length-append, ← a .count);
+      room = omega (arith, a .room, simp (all, length-drop) at (b .room));
+    }
+
+-- the tail has room for w where the lent bytes had room for p and w
+pub tail-room : {p : List ℕ} (w : List ℕ) {out mid : List ℕ} {at : ℕ} → Put p out mid at → length p + length w ≤ length out
+    → length w ≤ length (take (length mid - at) (drop at mid))
+tail-room w a h = simp (length-take, length-drop) (omega (arith, a .count, put-length a))
+
+-- one or two bytes stored at the start
+pub set-one : (out : List ℕ) (a : ℕ) → 1 ≤ length out → set out 0 a ≡ over (a ∷ []) out
+set-one [] a h = let z : ⊥ = omega arith in absurd z
+set-one (x ∷ out) a h = refl
+
+pub set-two : (out : List ℕ) (a b : ℕ) → 2 ≤ length out → set (set out 0 a) 1 b ≡ over (a ∷ b ∷ []) out
+set-two [] a b h = let z : ⊥ = omega arith in absurd z
+set-two (x ∷ []) a b h = let z : ⊥ = omega arith in absurd z
+set-two (x ∷ y ∷ out) a b h = refl
+
+-- one data byte: the escape twice, any other once
+pub one-escape : (b : ℕ) → b ≡ escape → escaped (b ∷ []) ≡ b ∷ b ∷ []
+one-escape b e = escaped-one b ∙ rw (eq-eqb b escape e) (cc)
+
+pub one-plain : (b : ℕ) → (b ≡ escape → ⊥) → escaped (b ∷ []) ≡ b ∷ []
+one-plain b n = escaped-one b ∙ rw (ne-eqb b escape n)
+
+-- one data byte more
+pub escaped-more : (l : List ℕ) (i : ℕ) → i < length l → escaped (take (i + 1) l) ≡ escaped (take i l) ++ escaped (getD l i 0 ∷ [])
+escaped-more l i h = rw (add-one, take-suc l i 0, escaped-append)
+
+pub escaped-room : (l : List ℕ) (i : ℕ) → i < length l
+    → length (escaped (take i l)) + length (escaped (getD l i 0 ∷ [])) ≤ length (escaped l)
+escaped-room l i h =
+    let e : escaped l ≡ escaped (take (i + 1) l) ++ escaped (drop (i + 1) l) = rw (← escaped-append, take-append-drop) in
+    rw (e, escaped-more l i h, length-append, length-append) (omega arith)
+
+-- What `write_data` promises: of a write, and of a refusal.
+pub done : {bytes out left : List ℕ} {n : ℕ} → Put (escaped bytes) out left n → Data-done bytes out (Done n) left
+unfolding fits
+done {bytes} {out} p =
+    let e = le-leb (length (escaped bytes)) (length out) (omega (arith, p .room, p .count)) in
+    record { answer = rw e; written = rw e (p .count); bytes-are = rw e (p .bytes) }
+
+pub refused : {bytes out : List ℕ} → length out < length (escaped bytes) → Data-done bytes out NoRoom out
+unfolding fits
+refused {bytes} {out} h = let e = lt-leb (length (escaped bytes)) (length out) h in record { answer = rw e; written = rw e; bytes-are = rw e }
+
+-- What a caller has of it: a write, where the raw bytes fit.
+pub done-put : {bytes out left : List ℕ} {r : Written} → Data-done bytes out r left → length (escaped bytes) ≤ length out
+    → Put (escaped bytes) out left (count r)
+unfolding fits
+done-put {bytes} {out} d h =
+    let e = le-leb (length (escaped bytes)) (length out) h in
+    let c = rw e at (d .written) in
+    record { count = c; bytes = rw e at (d .bytes-are); room = omega arith }

@@ -1,0 +1,120 @@
+// The escape layer of the serial protocol.
+mod marks;
+
+ghost use Prim.Native.Nat.{_≤_};
+ghost use mathlib.Core.Path.{_≡_};
+ghost use mathlib.Core.List.{[], _∷_};
+ghost use lib.Dec.{leb};
+ghost use lib.ListN.{length};
+ghost use Rattle.serial_rules.specs.Escape.{pieceOf, escaped};
+ghost use Rattle.serial_rules.specs.Marks.{outwardClass, inwardClass};
+ghost use Rattle.escape.specs.Layer.{pieceFor, Data-done};
+ghost use Rattle.escape.specs.Put.{Put};
+
+// A raw byte, seen through the escape layer: an escape that needs the next byte, a data byte, or a mark.
+pub enum Piece {
+    Pending,
+    Data(u8),
+    Mark(u8),
+}
+
+// The answer of a writer: the number of bytes written, or too little room.
+pub enum Written {
+    Done(usize),
+    NoRoom,
+}
+
+impl Piece {
+    // The escape byte.
+    pub const ESCAPE: u8 = 0x9B;
+
+    // One raw byte, after an escape or not.
+    pub fn read(seen: bool, raw: u8) -> Piece
+        ensures { λ r. ⌜ pieceFor r ≡ pieceOf seen raw ⌝ }
+    {
+        if seen {
+            if raw == Piece::ESCAPE {
+                Piece::Data(Piece::ESCAPE)
+            } else {
+                Piece::Mark(raw)
+            }
+        } else if raw == Piece::ESCAPE {
+            Piece::Pending
+        } else {
+            Piece::Data(raw)
+        }
+    }
+}
+
+// Writes data bytes into the start of `out`, each escape byte doubled; where the whole does not fit, nothing is written.
+pub fn write_data(bytes: &[u8], out: &mut [u8]) -> Written
+    ensures { λ r. ⌜ Data-done (now (bytes .entry)) (now (out .entry)) r (now (out .exit)) ⌝ }
+{
+    if bytes_fit(bytes, out.len()) {
+        return Written::Done(put_bytes(bytes, out));
+    }
+    Written::NoRoom
+}
+
+// Whether the raw bytes of data bytes fit into `room` bytes. What is left of the room is counted down, so that no sum overflows.
+fn bytes_fit(bytes: &[u8], room: usize) -> bool
+    ensures { λ r. ⌜ r ≡ leb (length (escaped (now (bytes .entry)))) room ⌝ }
+{
+    let mut left = room;
+    let mut i: usize = 0;
+    while i < bytes.len() {
+        let raw = raw_length(bytes[i]);
+        if left < raw {
+            return false;
+        }
+        left -= raw;
+        i += 1;
+    }
+    true
+}
+
+fn raw_length(byte: u8) -> usize
+    ensures { λ r. ⌜ r ≡ length (escaped (byte ∷ [])) ⌝ }
+{
+    if byte == Piece::ESCAPE { 2 } else { 1 }
+}
+
+// Writes the raw bytes of data bytes, for which there is room; returns how many.
+fn put_bytes(bytes: &[u8], out: &mut [u8]) -> usize
+    requires { ⌜ length (escaped (now bytes)) ≤ length (now out) ⌝ }
+    ensures { λ r. ⌜ Put (escaped (now (bytes .entry))) (now (out .entry)) (now (out .exit)) r ⌝ }
+{
+    let mut at: usize = 0;
+    let mut i: usize = 0;
+    while i < bytes.len() {
+        at += put_byte(bytes[i], &mut out[at..]);
+        i += 1;
+    }
+    at
+}
+
+fn put_byte(byte: u8, out: &mut [u8]) -> usize
+    requires { ⌜ length (escaped (byte ∷ [])) ≤ length (now out) ⌝ }
+    ensures { λ r. ⌜ Put (escaped (byte ∷ [])) (now (out .entry)) (now (out .exit)) r ⌝ }
+{
+    out[0] = byte;
+    if byte == Piece::ESCAPE {
+        out[1] = byte;
+        return 2;
+    }
+    1
+}
+
+// The class of a mark outward: 1 starts a request, 0 is not carried.
+pub fn outward_class(mark: u8) -> u8
+    ensures { λ r. ⌜ r ≡ outwardClass mark ⌝ }
+{
+    marks::OUTWARD[mark as usize]
+}
+
+// The class of a mark inward: 1 an error, 2 the Escape state, 3 an event, 4 an address, 0 not carried.
+pub fn inward_class(mark: u8) -> u8
+    ensures { λ r. ⌜ r ≡ inwardClass mark ⌝ }
+{
+    marks::INWARD[mark as usize]
+}

@@ -1,0 +1,4 @@
+pub mod Cases
+pub mod Escape
+pub mod Stream
+pub mod Trip

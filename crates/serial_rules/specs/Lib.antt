@@ -1,0 +1,7 @@
+pub mod Escape
+pub mod Marks
+pub mod Call
+pub mod Body
+pub mod Reader
+pub mod Stream
+pub mod Cases

@@ -1,0 +1,53 @@
+-- What a mark may be, each way, by document 01's bit rules (004: outward a command byte, inward a transfer byte).
+-- "What a mark may be, for each of its 256 byte values and each way, is one constant table with its rule proved over the whole of it."
+use Prim.Native.Nat.{ℕ, _/_, _%_}
+use mathlib.Core.Bool.{Bool, cond, not, _&&_}
+use lib.Dec.{eqb, leb}
+use Rattle.serial_rules.specs.Escape.{escape}
+
+-- the bit of weight w of a byte
+abbrev pub bit : ℕ → ℕ → Bool
+bit m w = eqb (m / w % 2) 1
+
+-- The twelve codes of the table of requests: &00 to &16, bit 0 clear.
+abbrev pub isCode : ℕ → Bool
+isCode code = not (bit code 1) && leb code 0x16
+
+-- Outward: "bits 7 and 0 must be 0, bits 6 and 5 are the style (0 to 3, kept), the rest is the code."
+abbrev pub styleOf : ℕ → ℕ
+styleOf m = m / 32
+
+abbrev pub codeIn : ℕ → ℕ
+codeIn m = m % 32
+
+unfoldable pub startsRequest : ℕ → Bool
+startsRequest m = not (bit m 128) && isCode (codeIn m)
+
+-- Inward: the classes of a mark, 0 for one that is not carried.
+abbrev pub notCarried : ℕ
+notCarried = 0
+
+abbrev pub errorMark : ℕ
+errorMark = 1
+
+abbrev pub escapeMark : ℕ
+escapeMark = 2
+
+abbrev pub eventMark : ℕ
+eventMark = 3
+
+abbrev pub addressMark : ℕ
+addressMark = 4
+
+-- "&00 (error number, text, &00), &80 to &8F (bit 0 is the Escape state), &90 to &9F except &9B (Y X A follow), &C0 to &CF (4 address bytes)"
+unfoldable pub inwardClass : ℕ → ℕ
+inwardClass m =
+    cond (eqb m 0) errorMark
+    (cond (eqb (m / 16) 0x8) escapeMark
+    (cond (eqb (m / 16) 0x9 && not (eqb m escape)) eventMark
+    (cond (eqb (m / 16) 0xC) addressMark
+    notCarried)))
+
+-- the outward row's class: 1 starts a request, 0 is not carried
+unfoldable pub outwardClass : ℕ → ℕ
+outwardClass m = cond (startsRequest m) 1 notCarried
