@@ -2,3 +2,4 @@ pub mod Cases
 pub mod Escape
 pub mod Stream
 pub mod Trip
+pub mod Fields

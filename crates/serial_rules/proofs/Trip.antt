@@ -259,11 +259,11 @@ record Facts (call : Call) (b t : List ℕ) : Type 0 where
   block : blockOk call (length b) ≡ true
   text : All NoReturn t
 
-and-both : (a b : Bool) → a && b ≡ true → (a ≡ true) × (b ≡ true)
+pub and-both : (a b : Bool) → a && b ≡ true → (a ≡ true) × (b ≡ true)
 and-both true b h = (refl, h)
 and-both false b h = absurd (true≢false (sym h))
 
-not-true : (a : Bool) → not a ≡ true → a ≡ false
+pub not-true : (a : Bool) → not a ≡ true → a ≡ false
 not-true true h = absurd (true≢false (sym h))
 not-true false h = refl
 

@@ -4,4 +4,5 @@ pub mod Call
 pub mod Body
 pub mod Reader
 pub mod Stream
+pub mod Fields
 pub mod Cases
