@@ -1,15 +1,15 @@
 -- The fields of a request that was written come out of its body as they went in.
-use Prim.Native.Nat.{ℕ, suc, _+_, _-_, _≤_}
+use Prim.Native.Nat.{ℕ, suc, _+_, _-_}
 use mathlib.Core.Path.{_≡_, refl, sym, ap, _∙_}
-use mathlib.Core.Bool.{Bool, true, false, cond, _&&_, _||_, not}
+use mathlib.Core.Bool.{true, _&&_, _||_, not}
 use mathlib.Core.List.{List, [], _∷_, _++_, append-assoc}
 use native.Mathlib.Omega.{arith}
 use lib.Dec.{eqb}
-use lib.ListN.{length, getD, take, drop, length-append}
+use lib.ListN.{length, take, length-append}
 use lib.Seq.{take-at, drop-at, getD-at}
 use borrow.Author.Tests.{eqb-true}
 use Rattle.serial_rules.specs.Call.{Call, osrdch, oscli, osbyteLow, osbyteHigh, osword, osword0, osargs, osbget, osbput, osfindClose, osfindOpen, osfile, osgbpb, codeOf, bodyOf, return, numbersOk, blockOk, hasString, hasReturn, callOk}
-use Rattle.serial_rules.specs.Fields.{Fields, fields, at, last, fieldsOf}
+use Rattle.serial_rules.specs.Fields.{fields, last, fieldsOf}
 use Rattle.serial_rules.proofs.Trip.{and-both, not-true}
 
 -- a call without a block or a string has an empty one beside it
@@ -31,10 +31,10 @@ parts call b t h =
     record { numbers = x .0; block = y .0; text = z .0 }
 
 -- a list before a last byte
-before-last : (l : List ℕ) (x : ℕ) → take (length (l ++ (x ∷ [])) - 1) (l ++ (x ∷ [])) ≡ l
+pub before-last : (l : List ℕ) (x : ℕ) → take (length (l ++ (x ∷ [])) - 1) (l ++ (x ∷ [])) ≡ l
 before-last l x = take-at l (x ∷ []) (length (l ++ (x ∷ [])) - 1) (omega (arith, length-append l (x ∷ [])))
 
-last-is : (l : List ℕ) (x : ℕ) → last (l ++ (x ∷ [])) ≡ x
+pub last-is : (l : List ℕ) (x : ℕ) → last (l ++ (x ∷ [])) ≡ x
 last-is l x = getD-at l x [] 0 (length (l ++ (x ∷ [])) - 1) (omega (arith, length-append l (x ∷ [])))
 
 pub fields-back : (call : Call) (b t : List ℕ) → callOk call b t ≡ true → fieldsOf (codeOf call) (bodyOf call b t) ≡ fields call b t
@@ -48,7 +48,8 @@ fields-back (osword a out) b t h =
     rw (
       last-is (a ∷ length b ∷ b) out,
       take-at b (out ∷ []) (suc (suc (length (b ++ (out ∷ [])))) - 3) (omega (arith, length-append b (out ∷ []))),
-      none t (p .text))
+      none t (p .text),
+    )
 fields-back osword0 b t h = let p = parts osword0 b t h in rw (none t (p .text))
 fields-back (osargs y a) b t h =
     let p = parts (osargs y a) b t h in
@@ -62,13 +63,14 @@ fields-back (osfindOpen a) b t h =
     rw (
       not-true (eqb a 0) (p .numbers),
       none b (p .block),
-      take-at t (return ∷ []) (suc (length (t ++ (return ∷ []))) - 2) (omega (arith, length-append t (return ∷ []))))
+      take-at t (return ∷ []) (suc (length (t ++ (return ∷ []))) - 2) (omega (arith, length-append t (return ∷ []))),
+    )
 fields-back (osfile a) b t h =
     let p = parts (osfile a) b t h in
     let sixteen = eqb-true (length b) 16 (p .block) in
     let name = t ++ (return ∷ a ∷ []) in
     let joined : (b ++ t ++ (return ∷ [])) ++ (a ∷ []) ≡ b ++ name =
-        append-assoc (b ++ t) (return ∷ []) (a ∷ []) ∙ append-assoc b t (return ∷ a ∷ []) in
+    append-assoc (b ++ t) (return ∷ []) (a ∷ []) ∙ append-assoc b t (return ∷ a ∷ []) in
     let end : last (b ++ name) ≡ a = ap last (sym joined) ∙ last-is (b ++ t ++ (return ∷ [])) a in
     let long : length (b ++ name) - 18 ≡ length t = omega (arith, length-append b name, length-append t (return ∷ a ∷ [])) in
     rw (end, take-at b name 16 sixteen, drop-at b name 16 sixteen, long, take-at t (return ∷ a ∷ []) (length t) refl)

@@ -3,3 +3,5 @@ pub mod Escape
 pub mod Stream
 pub mod Trip
 pub mod Fields
+pub mod Finished
+pub mod Standing

@@ -5,15 +5,15 @@ use mathlib.Core.Path.{_≡_, refl, sym, ap, subst, _∙_}
 use mathlib.Core.Bool.{Bool, true, false, cond, not, _&&_, _||_, true≢false}
 use mathlib.Core.List.{List, [], _∷_, _++_, append-assoc, append-nil}
 use native.Mathlib.Omega.{arith}
-use lib.Dec.{ltb, leb, eqb}
+use lib.Dec.{leb, eqb}
 use lib.ListN.{length, drop, length-append}
 use lib.Seq.{drop-at}
-use borrow.Author.Tests.{eq-eqb, ne-eqb, le-ltb, lt-ltb, le-leb, lt-leb, eqb-true, eqb-false, leb-true, ltb-true}
-use Rattle.serial_rules.specs.Escape.{escape, escapedByte, escaped, Piece, pending, dataByte, mark, pieceOf}
-use Rattle.serial_rules.specs.Marks.{bit, isCode, styleOf, codeIn, startsRequest}
-use Rattle.serial_rules.specs.Call.{Call, osrdch, oscli, osbyteLow, osbyteHigh, osword, osword0, osargs, osbget, osbput, osfindClose, osfindOpen, osfile, osgbpb, codeOf, bodyOf, return, stringLimit, hasReturn, numbersOk, blockOk, hasString, callOk, Carrier, serial, parallel, carried, heading, styleOk, encodingOf}
-use Rattle.serial_rules.specs.Body.{Turn, more, done, refused, stringTurn, fixedTurn, checkedTurn, wordTurn, findTurn, nameTurn, ended, fileTurn, bodyTurn}
-use Rattle.serial_rules.specs.Reader.{Reader, outside, inside, request, Step, gives, begun, turned, insideStep, step}
+use borrow.Author.Tests.{ne-eqb, le-ltb, lt-ltb, le-leb, eqb-true, leb-true}
+use Rattle.serial_rules.specs.Escape.{escape}
+use Rattle.serial_rules.specs.Marks.{bit, isCode, startsRequest}
+use Rattle.serial_rules.specs.Call.{Call, osrdch, oscli, osbyteLow, osbyteHigh, osword, osword0, osargs, osbget, osbput, osfindClose, osfindOpen, osfile, osgbpb, codeOf, bodyOf, return, hasReturn, numbersOk, blockOk, hasString, callOk, Carrier, serial, parallel, carried, heading, styleOk, encodingOf}
+use Rattle.serial_rules.specs.Body.{Turn, more, done, stringTurn, fixedTurn, nameTurn, ended, fileTurn, bodyTurn}
+use Rattle.serial_rules.specs.Reader.{outside, inside, request, Step, begun, turned, step}
 use Rattle.serial_rules.specs.Stream.{Fed, gave, fedBy, feed}
 use Rattle.serial_rules.proofs.Escape.{escaped-one}
 use Rattle.serial_rules.proofs.Stream.{carried-append, carried-none, right-of}
@@ -35,7 +35,7 @@ data-fed serial style code s b r = rw (escaped-one b) (go (eqb b escape) refl)
     go false e = simp e
 
 -- each byte of t, after the body s, needs more
-abbrev Goes : ℕ → List ℕ → List ℕ → Type 0
+abbrev pub Goes : ℕ → List ℕ → List ℕ → Type 0
 Goes code s [] = Unit
 Goes code s (b ∷ t) = (bodyTurn code s b ≡ more) × Goes code (s ++ (b ∷ [])) t
 
@@ -53,12 +53,12 @@ goes-fed carrier style code s (b ∷ t) r g =
     ∙ ap (λ (u : List ℕ). feed carrier (inside false style code u) r) (append-assoc s (b ∷ []) t)
 
 -- a body that is whole: each byte but its last needs more, and the last ends it
-record Whole (code : ℕ) (body : List ℕ) : Type 0 where
-  init : List ℕ
-  last : ℕ
-  joined : init ++ (last ∷ []) ≡ body
-  goes : Goes code [] init
-  ends : bodyTurn code init last ≡ done
+pub record Whole (code : ℕ) (body : List ℕ) : Type 0 where
+  pub init : List ℕ
+  pub last : ℕ
+  pub joined : init ++ (last ∷ []) ≡ body
+  pub goes : Goes code [] init
+  pub ends : bodyTurn code init last ≡ done
 
 whole-fed : (carrier : Carrier) (style code : ℕ) (body r : List ℕ) → Whole code body
     → feed carrier (inside false style code []) (carried carrier body ++ r) ≡ gave (request style code body) (outside false) r
@@ -93,11 +93,11 @@ start-fed parallel style code r s k =
     simp (k, d, q, z)
 
 -- a fact of each byte
-abbrev All : (ℕ → Type 0) → List ℕ → Type 0
+abbrev pub All : (ℕ → Type 0) → List ℕ → Type 0
 All P [] = Unit
 All P (x ∷ l) = P x × All P l
 
-all-snoc : (P : ℕ → Type 0) (u : List ℕ) (b : ℕ) → All P u → P b → All P (u ++ (b ∷ []))
+pub all-snoc : (P : ℕ → Type 0) (u : List ℕ) (b : ℕ) → All P u → P b → All P (u ++ (b ∷ []))
 all-snoc P [] b a p = (p, tt)
 all-snoc P (x ∷ u) b a p = (a .0, all-snoc P u b (a .1) p)
 
@@ -115,7 +115,7 @@ module _ (code most : ℕ) (p : List ℕ) (Ok : ℕ → Type 0)
   goes-by : (t : List ℕ) → All Ok t → length t ≤ most → Goes code p t
   goes-by t o h = subst (λ (x : List ℕ). Goes code x t) (append-nil p) (goes-from [] t tt o (omega arith))
 
-goes-append : (code : ℕ) (s t u : List ℕ) → Goes code s t → Goes code (s ++ t) u → Goes code s (t ++ u)
+pub goes-append : (code : ℕ) (s t u : List ℕ) → Goes code s t → Goes code (s ++ t) u → Goes code s (t ++ u)
 goes-append code s [] u g h = subst (λ (x : List ℕ). Goes code x u) (append-nil s) h
 goes-append code s (b ∷ t) u g h = (g .0, goes-append code (s ++ (b ∷ [])) t u (g .1) (rw append-assoc h))
 
@@ -126,10 +126,10 @@ all-any : (t : List ℕ) → All Any t
 all-any [] = tt
 all-any (x ∷ t) = (tt, all-any t)
 
-abbrev NoReturn : ℕ → Type 0
+abbrev pub NoReturn : ℕ → Type 0
 NoReturn b = eqb b return ≡ false
 
-or-false : (a b : Bool) → a || b ≡ false → (a ≡ false) × (b ≡ false)
+pub or-false : (a b : Bool) → a || b ≡ false → (a ≡ false) × (b ≡ false)
 or-false true b h = absurd (true≢false h)
 or-false false b h = (refl, h)
 

@@ -1,10 +1,10 @@
 -- Raw streams: what a reader gives on them, and the raw bytes that its answers and its open part stand for.
 use Prim.Native.Nat.{ℕ}
-use mathlib.Core.Bool.{Bool, true, false, cond}
+use mathlib.Core.Bool.{Bool, true, false}
 use mathlib.Core.List.{List, [], _∷_, _++_}
-use Rattle.serial_rules.specs.Escape.{escape, escapedByte}
+use Rattle.serial_rules.specs.Escape.{escape}
 use Rattle.serial_rules.specs.Call.{Carrier, serial, parallel, carried, heading}
-use Rattle.serial_rules.specs.Reader.{Reader, stopped, outside, inside, Answer, needMore, character, request, refusal, Step, step}
+use Rattle.serial_rules.specs.Reader.{Reader, stopped, outside, inside, Answer, needMore, character, request, refusal, step}
 
 -- the first answer on a stream that is not need-more, with the reader after it and the raw bytes left; or the reader where the stream ends before
 pub data Fed : Type 0 where
