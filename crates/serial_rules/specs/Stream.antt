@@ -1,5 +1,7 @@
 -- Raw streams: what a reader gives on them, and the raw bytes that its answers and its open part stand for.
-use Prim.Native.Nat.{ℕ}
+use Prim.Native.Nat.{ℕ, _+_}
+use mathlib.Core.Path.{_≡_}
+use lib.ListN.{length, replicate}
 use mathlib.Core.Bool.{Bool, true, false}
 use mathlib.Core.List.{List, [], _∷_, _++_}
 use Rattle.serial_rules.specs.Escape.{escape}
@@ -60,3 +62,9 @@ accepted (needMore ∷ l) = accepted l
 accepted (character b ∷ l) = accepted l
 accepted (request style code s ∷ l) = accepted l
 accepted (refusal n ∷ l) = ⊥
+
+-- On the stream l a reader answers `need-more` until the byte that gives a; `rest` is left behind that byte, for the reader q.
+pub record Gives (carrier : Carrier) (r : Reader) (l : List ℕ) (a : Answer) (q : Reader) (rest : List ℕ) : Type 0 where
+  pub waits : ℕ
+  pub answers-are : answers carrier r l ≡ replicate waits needMore ++ (a ∷ answers carrier q rest)
+  pub place : length l ≡ waits + 1 + length rest

@@ -1,0 +1,77 @@
+-- How a reader record with its lent body stands for the rules' reader, and what a step promises.
+use Prim.Native.Nat.{ℕ}
+use mathlib.Core.Path.{_≡_}
+use mathlib.Core.Bool.{Bool, true, false, cond, _&&_}
+use mathlib.Core.List.{List, [], _∷_}
+use lib.Dec.{ltb}
+use lib.ListN.{length, take, set}
+use Rattle.serial_rules.specs.Escape as escape
+use Rattle.serial_rules.specs.Call as call
+use Rattle.serial_rules.specs.Body as body
+use Rattle.serial_rules.specs.Reader as rules
+use Rattle.request_reader.specs.declared.Carrier.{Carrier}
+use Rattle.request_reader.specs.declared.Carrier.the-variants.{Serial, Parallel}
+use Rattle.request_reader.specs.declared.Phase.{Phase}
+use Rattle.request_reader.specs.declared.Phase.the-variants.{Outside, Inside, Stopped}
+use Rattle.request_reader.specs.declared.Reader.{Reader}
+use Rattle.request_reader.specs.declared.Answer.{Answer}
+use Rattle.request_reader.specs.declared.Answer.the-variants.{More, Character, Request, Refused}
+use Rattle.request_reader.specs.declared.Stepped.{Stepped}
+
+abbrev pub carrierOf : Carrier → call.Carrier
+carrierOf Serial = call.serial
+carrierOf Parallel = call.parallel
+
+-- "one whose record exceeds its limits counts as stopped": the style, a code that has a body, and a count below that code's longest body
+unfoldable pub within : Reader → Bool
+within r = call.styleOk (carrierOf (r .carrier)) (r .style) && ltb (r .count) (body.longestBody (r .code))
+
+abbrev pub placed : Phase → Bool → Bool → ℕ → ℕ → List ℕ → rules.Reader
+placed Outside ok e style code s = rules.outside e
+placed Inside ok e style code s = cond ok (rules.inside e style code s) rules.stopped
+placed Stopped ok e style code s = rules.stopped
+
+-- the abstraction function: the body so far is the first `count` bytes of the lent body
+abbrev pub viewOf : Reader → List ℕ → rules.Reader
+viewOf r lent = placed (r .phase) (within r) (r .escape) (r .style) (r .code) (take (r .count) lent)
+
+-- each answer's number and values; a finished body is the first `length` bytes of the lent body
+abbrev pub answerOf : Answer → List ℕ → rules.Answer
+answerOf More lent = rules.needMore
+answerOf (Character b) lent = rules.character b
+answerOf (Request style code n) lent = rules.request style code (take n lent)
+answerOf (Refused n) lent = rules.refusal n
+
+-- every lent byte after a raw byte: a data byte that the body takes stands behind the bytes so far, and no other byte changes
+abbrev pub turnLent : List ℕ → ℕ → ℕ → body.Turn → List ℕ
+turnLent lent n b body.more = set lent n b
+turnLent lent n b body.done = set lent n b
+turnLent lent n b (body.refused k) = lent
+
+abbrev pub pieceLent : List ℕ → ℕ → List ℕ → escape.Piece → List ℕ
+pieceLent lent code s escape.pending = lent
+pieceLent lent code s (escape.dataByte b) = turnLent lent (length s) b (body.bodyTurn code s b)
+pieceLent lent code s (escape.mark m) = lent
+
+unfoldable pub lentAfter : call.Carrier → rules.Reader → ℕ → List ℕ → List ℕ
+lentAfter carrier rules.stopped raw lent = lent
+lentAfter carrier (rules.outside e) raw lent = lent
+lentAfter carrier (rules.inside e style code s) raw lent = pieceLent lent code s (rules.pieceInside carrier e raw)
+
+-- the record of a fresh reader
+abbrev pub fresh : Carrier → Reader
+fresh carrier = record { carrier = carrier; phase = Outside; escape = false; style = 0; code = 0; count = 0 }
+
+-- the record with its reader stopped
+abbrev pub stoppedFrom : Reader → Reader
+stoppedFrom r = record { carrier = r .carrier; phase = Stopped; escape = r .escape; style = r .style; code = r .code; count = r .count }
+
+-- What `step` promises of the reader, the lent body before and after, the raw byte and the result, for every one of them.
+pub record Step-done (reader : Reader) (lent : List ℕ) (raw : ℕ) (r : Stepped) (left : List ℕ) : Type 0 where
+  pub answer : answerOf (r .answer) left ≡ rules.step (carrierOf (reader .carrier)) (viewOf reader lent) raw .answer
+  pub next : viewOf (r .reader) left ≡ rules.step (carrierOf (reader .carrier)) (viewOf reader lent) raw .next
+  pub bytes : left ≡ lentAfter (carrierOf (reader .carrier)) (viewOf reader lent) raw lent
+  pub carrier : r .reader .carrier ≡ reader .carrier
+  -- a stopped reader is unchanged; any other refusal leaves the record given, stopped
+  pub kept : viewOf reader lent ≡ rules.stopped → r .reader ≡ reader
+  pub stops : (n : ℕ) → (viewOf reader lent ≡ rules.stopped → ⊥) → r .answer ≡ Refused n → r .reader ≡ stoppedFrom reader

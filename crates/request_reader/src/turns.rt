@@ -1,0 +1,165 @@
+// One data byte b of a request's body, against the bytes s, or n bytes, before it.
+use crate::Reader;
+ghost use mathlib.Core.Path.{_≡_};
+ghost use Rattle.serial_rules.specs.Body.{stringTurn, fixedTurn, checkedTurn, wordTurn, findTurn, nameTurn, ended, fileTurn, bodyTurn, longestBody};
+ghost use Rattle.request_reader.specs.Parts.{turnOf};
+
+// What the byte does to the body.
+pub enum Turn {
+    More,
+    Done,
+    Refused(u8),
+}
+
+// What ends a string.
+const RETURN: u8 = 0x0D;
+
+// A byte of a string that ends the body.
+fn string_turn(n: usize, b: u8) -> Turn
+    ensures { λ r. ⌜ turnOf r ≡ stringTurn n b ⌝ }
+{
+    if b == RETURN {
+        return Turn::Done;
+    }
+    if n < Reader::STRING_LIMIT {
+        return Turn::More;
+    }
+    Turn::Refused(6)
+}
+
+// A byte of a body whose last byte has the index `last`.
+fn fixed_turn(n: usize, last: usize) -> Turn
+    ensures { λ r. ⌜ turnOf r ≡ fixedTurn n last ⌝ }
+{
+    if n < last {
+        return Turn::More;
+    }
+    Turn::Done
+}
+
+// The same, where the last byte has to pass a test.
+fn checked_turn(n: usize, last: usize, ok: bool) -> Turn
+    ensures { λ r. ⌜ turnOf r ≡ checkedTurn n last ok ⌝ }
+{
+    if n < last {
+        return Turn::More;
+    }
+    if ok {
+        return Turn::Done;
+    }
+    Turn::Refused(9)
+}
+
+// OSWORD: A, which is not 0, the number of bytes, the bytes, the number wanted.
+fn word_turn(s: &[u8], b: u8) -> Turn
+    ensures { λ r. ⌜ turnOf r ≡ wordTurn (now (s .entry)) b ⌝ }
+{
+    let n = s.len();
+    if n == 0 {
+        if b == 0 {
+            return Turn::Refused(9);
+        }
+        return Turn::More;
+    }
+    if n == 1 {
+        return Turn::More;
+    }
+    let last = s[1] as usize;
+    fixed_turn(n - 2, last)
+}
+
+// OSFIND: 0 and Y, or A and a string.
+fn find_turn(s: &[u8], b: u8) -> Turn
+    ensures { λ r. ⌜ turnOf r ≡ findTurn (now (s .entry)) b ⌝ }
+{
+    let n = s.len();
+    if n == 0 {
+        return Turn::More;
+    }
+    if s[0] == 0 {
+        return Turn::Done;
+    }
+    string_turn(n - 1, b)
+}
+
+// A byte of a string that another field follows.
+fn name_turn(n: usize, b: u8) -> Turn
+    ensures { λ r. ⌜ turnOf r ≡ nameTurn n b ⌝ }
+{
+    if b == RETURN {
+        if n <= Reader::STRING_LIMIT {
+            return Turn::More;
+        }
+        return Turn::Refused(6);
+    }
+    if n < Reader::STRING_LIMIT {
+        return Turn::More;
+    }
+    Turn::Refused(6)
+}
+
+// Whether the last byte ends a string.
+fn name_ended(s: &[u8]) -> bool
+    ensures { λ r. ⌜ r ≡ ended (now (s .entry)) ⌝ }
+{
+    let n = s.len();
+    if n == 0 {
+        return false;
+    }
+    s[n - 1] == RETURN
+}
+
+// OSFILE: 16 bytes, a string, A.
+fn file_turn(s: &[u8], b: u8) -> Turn
+    ensures { λ r. ⌜ turnOf r ≡ fileTurn (now (s .entry)) b ⌝ }
+{
+    let n = s.len();
+    if n < 16 {
+        return Turn::More;
+    }
+    if name_ended(&s[16..]) {
+        return Turn::Done;
+    }
+    name_turn(n - 16, b)
+}
+
+// The turn of a data byte, by the request's code.
+pub fn body_turn(code: u8, s: &[u8], b: u8) -> Turn
+    ensures { λ r. ⌜ turnOf r ≡ bodyTurn code (now (s .entry)) b ⌝ }
+{
+    let n = s.len();
+    match code {
+        0x02 => string_turn(n, b),
+        0x04 => checked_turn(n, 1, b < 0x80),
+        0x06 => checked_turn(n, 2, 0x80 <= b),
+        0x08 => word_turn(s, b),
+        0x0A => fixed_turn(n, 4),
+        0x0C => fixed_turn(n, 5),
+        0x0E => fixed_turn(n, 0),
+        0x10 => fixed_turn(n, 1),
+        0x12 => find_turn(s, b),
+        0x14 => file_turn(s, b),
+        0x16 => fixed_turn(n, 13),
+        _ => Turn::Refused(4),
+    }
+}
+
+// The length of the longest body of a code; 0 for a code without a body.
+pub fn longest_body(code: u8) -> usize
+    ensures { λ r. ⌜ r ≡ longestBody code ⌝ }
+{
+    match code {
+        0x02 => 256,
+        0x04 => 2,
+        0x06 => 3,
+        0x08 => 258,
+        0x0A => 5,
+        0x0C => 6,
+        0x0E => 1,
+        0x10 => 2,
+        0x12 => 257,
+        0x14 => Reader::LONGEST_BODY,
+        0x16 => 14,
+        _ => 0,
+    }
+}
