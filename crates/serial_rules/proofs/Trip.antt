@@ -14,7 +14,7 @@ use Rattle.serial_rules.specs.Marks.{bit, isCode, startsRequest}
 use Rattle.serial_rules.specs.Call.{Call, osrdch, oscli, osbyteLow, osbyteHigh, osword, osword0, osargs, osbget, osbput, osfindClose, osfindOpen, osfile, osgbpb, codeOf, bodyOf, return, hasReturn, numbersOk, blockOk, hasString, callOk, Carrier, serial, parallel, carried, heading, styleOk, encodingOf}
 use Rattle.serial_rules.specs.Body.{Turn, more, done, stringTurn, fixedTurn, nameTurn, ended, fileTurn, bodyTurn}
 use Rattle.serial_rules.specs.Reader.{Reader, Answer, needMore, character, refusal, outside, inside, request, Step, begun, turned, step}
-use Rattle.serial_rules.specs.Stream.{Fed, waiting, gave, fedBy, feed, answers, Gives}
+use Rattle.serial_rules.specs.Stream.{Fed, gave, fedBy, feed, answers, Gives}
 use Rattle.serial_rules.proofs.Escape.{escaped-one}
 use Rattle.serial_rules.proofs.Stream.{carried-append, carried-none, right-of}
 
