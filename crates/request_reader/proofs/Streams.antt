@@ -15,18 +15,20 @@ use Rattle.request_reader.specs.View.{carrierOf, viewOf, fresh}
 use Rattle.request_reader.specs.Read.{Read, stop, took}
 
 -- the carrier of a reader stays, and the answers and the end are the rules'
-record As-ruled (r : Reader) (lent raw : List ℕ) (gave : List rules.Answer) (q : Reader) (end : List ℕ) : Type 0 where
-  told : gave ≡ answers (carrierOf (r .carrier)) (viewOf r lent) raw
-  left : viewOf q end ≡ readerAfter (carrierOf (r .carrier)) (viewOf r lent) raw
+pub record As-ruled (r : Reader) (lent raw : List ℕ) (gave : List rules.Answer) (q : Reader) (end : List ℕ) : Type 0 where
+  pub told : gave ≡ answers (carrierOf (r .carrier)) (viewOf r lent) raw
+  pub left : viewOf q end ≡ readerAfter (carrierOf (r .carrier)) (viewOf r lent) raw
+  pub carrier : q .carrier ≡ r .carrier
 
-as-ruled : {r q : Reader} {lent raw end : List ℕ} {gave : List rules.Answer} → Read r lent raw gave q end → As-ruled r lent raw gave q end
+pub as-ruled : {r q : Reader} {lent raw end : List ℕ} {gave : List rules.Answer} → Read r lent raw gave q end → As-ruled r lent raw gave q end
 unfolding answers readerAfter
-as-ruled stop = record { told = refl; left = refl }
+as-ruled stop = record { told = refl; left = refl; carrier = refl }
 as-ruled (took {r = r} {lent = lent} {x = x} {raw = raw} {o = o} d t) =
     let a = as-ruled t in
     record {
       told = ap₂ (λ (z : rules.Answer) (l : List rules.Answer). z ∷ l) (d .answer) (a .told ∙ ap₂ (λ (k : Carrier) (v : rules.Reader). answers (carrierOf k) v raw) (d .carrier) (d .next));
       left = a .left ∙ ap₂ (λ (k : Carrier) (v : rules.Reader). readerAfter (carrierOf k) v raw) (d .carrier) (d .next);
+      carrier = a .carrier ∙ d .carrier;
     }
 
 -- Writing then reading: over the encoding of a request and whatever follows, a fresh reader needs more until the last byte of the encoding,
