@@ -1,4 +1,4 @@
-/* The header against the library: the record's layout, one access of each kind, and the example script. */
+/* The header against the library: the records' layout, one access of each kind, the example script, and a request written and read. */
 #include "../include/tube.h"
 #include <stdio.h>
 #include <string.h>
@@ -36,6 +36,27 @@ int main(void) {
     expect("the example script", end.played == 3 && end.answer == 0 && length == strlen(text) && memcmp(out, text, length) == 0
                                      && tube_lines(end.chip) == 0);
 
-    printf("%d passed, %d failed\n", 4 - failed, failed);
+    const uint8_t name[3] = {'D', 0x9B, 'R'}, wire[7] = {0x9B, 0x62, 'D', 0x9B, 0x9B, 'R', 0x0D};
+    uint8_t line[8] = {0}, body[TUBE_BODY] = {0};
+    TubeWritten short_of = tube_write_request(TUBE_SERIAL, 3, TUBE_OSCLI, 0, 0, 0, 0, name, 0, name, 3, line, 6);
+    int untouched = line[0] == 0;
+    TubeWritten written = tube_write_request(TUBE_SERIAL, 3, TUBE_OSCLI, 0, 0, 0, 0, name, 0, name, 3, line, sizeof line);
+    TubeWritten unknown = tube_write_request(TUBE_SERIAL, 3, 13, 0, 0, 0, 0, name, 0, name, 3, line, sizeof line);
+    expect("a request written", short_of.answer == TUBE_BUFFER_SHORT && untouched && written.answer == TUBE_DONE && written.length == 7
+                                    && memcmp(line, wire, 7) == 0 && line[7] == 0 && unknown.answer == TUBE_BAD_FIELD);
+
+    TubeRead got = {.reader = tube_reader(TUBE_SERIAL)};
+    int waited = 1;
+    for (size_t i = 0; i < 7; i++) {
+        waited = waited && got.kind == TUBE_NEED_MORE;
+        got = tube_read(got.reader, wire[i], body);
+    }
+    expect("the same request read", waited && got.kind == TUBE_REQUEST && got.style == 3 && got.code == 2 && got.length == 4
+                                        && memcmp(body, name, 3) == 0 && body[3] == 0x0D);
+    got.reader.phase = 3;
+    got = tube_read(got.reader, 'A', body);
+    expect("a reader out of range is stopped", got.kind == TUBE_REFUSED && got.value == TUBE_STOPPED && got.reader.phase == 3);
+
+    printf("%d passed, %d failed\n", 7 - failed, failed);
     return failed != 0;
 }

@@ -1,0 +1,45 @@
+-- With the tags in range this is a step of the reader; with one out of range the refusal of a stopped reader.
+use mathlib.Core.Path.{sym, _∙_}
+use Rattle.tube.proofs.Laws.{stepped, out-of-range}
+use borrow.Author.Needs.{needs}
+use Rattle.tube.proofs.tube_read.Statement.{statement}
+use Rattle.tube.proofs.tube_read.Tie as tie
+
+has-tags-requires : tie.Need-has-tags-requires
+has-tags-requires c κs = search needs
+
+unflattened-requires : tie.Need-unflattened-requires
+unflattened-requires c κs = search needs
+
+step-requires : tie.Need-step-requires
+step-requires c κs = search needs
+
+flattened-requires : tie.Need-flattened-requires
+flattened-requires c κs = search needs
+
+flat-read-requires : tie.Need-flat-read-requires
+flat-read-requires c κs = search needs
+
+returns : tie.Need-returns
+returns c =
+    stepped (sym (c .before .before .before .before .before .before .before .has-tags .ensures) ∙ c .before .before .before .before .before .before .if1 .taken)
+    (c .before .before .before .before .before .unflattened .ensures) (c .before .before .before .step .ensures) (c .before .flattened .ensures) (c .flat-read .ensures)
+
+flat-read-requires-2 : tie.Need-flat-read-requires-2
+flat-read-requires-2 c κs = search needs
+
+returns-2 : tie.Need-returns-2
+returns-2 c = out-of-range (sym (c .before .before .has-tags .ensures) ∙ c .before .if1 .left) (c .flat-read2 .ensures)
+
+pub tube-read-spec : {M : Type 1} → statement M
+tube-read-spec =
+    tie.close
+    (tie.spec
+    has-tags-requires
+    unflattened-requires
+    step-requires
+    flattened-requires
+    flat-read-requires
+    returns
+    flat-read-requires-2
+    returns-2)

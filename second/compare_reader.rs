@@ -1,0 +1,1051 @@
+//! Compares the proved library's request reader with the second program: the
+//! same streams and single bytes go to both, and everything they give is
+//! compared. Prints one line for each property, then `N passed, M failed`.
+
+use std::process::ExitCode;
+
+// Only its reader is used here.
+#[allow(dead_code)]
+#[path = "serial.rs"]
+mod serial;
+
+use serial::{BODY, PARALLEL, Read, Reader, SERIAL};
+
+const OUTSIDE: u8 = 0;
+const INSIDE: u8 = 1;
+
+/// The longest body of each code, by half the code.
+const LONGEST: [usize; 12] = [0, 256, 2, 3, 258, 5, 6, 1, 2, 257, 273, 14];
+
+/// The library's record of a reader.
+#[repr(C)]
+#[derive(Clone, Copy, PartialEq, Debug)]
+struct TubeReader {
+    count: usize,
+    carrier: u8,
+    phase: u8,
+    escape: u8,
+    style: u8,
+    code: u8,
+}
+
+#[repr(C)]
+#[derive(Clone, Copy, Debug)]
+struct TubeRead {
+    reader: TubeReader,
+    length: usize,
+    kind: u8,
+    value: u8,
+    style: u8,
+    code: u8,
+}
+
+unsafe extern "C" {
+    fn tube_reader(carrier: u8) -> TubeReader;
+    fn tube_read(reader: TubeReader, raw: u8, body: *mut u8) -> TubeRead;
+}
+
+impl TubeReader {
+    fn from_second(reader: &Reader) -> TubeReader {
+        TubeReader {
+            count: reader.count,
+            carrier: reader.carrier,
+            phase: reader.phase,
+            escape: reader.escape as u8,
+            style: reader.style,
+            code: reader.code,
+        }
+    }
+
+    fn to_second(self) -> Reader {
+        Reader {
+            carrier: self.carrier,
+            phase: self.phase,
+            escape: self.escape != 0,
+            style: self.style,
+            code: self.code,
+            count: self.count,
+        }
+    }
+}
+
+/// The lent body between guard bytes.
+type Lent = [u8; GUARD + BODY + GUARD];
+
+const GUARD: usize = 16;
+
+fn body(lent: &mut Lent) -> &mut [u8; BODY] {
+    (&mut lent[GUARD..GUARD + BODY]).try_into().unwrap()
+}
+
+fn library_read(reader: TubeReader, raw: u8, lent: &mut Lent) -> TubeRead {
+    unsafe { tube_read(reader, raw, lent.as_mut_ptr().add(GUARD)) }
+}
+
+// ---- Properties ----
+
+#[derive(Clone, Copy)]
+enum Property {
+    Fresh,
+    StreamKind,
+    StreamValue,
+    StreamRequest,
+    StreamRecord,
+    StreamBody,
+    StreamStopped,
+    StepKind,
+    StepValue,
+    StepRequest,
+    StepRecord,
+    StepBody,
+    StepStopped,
+    InputRequests,
+    InputRefusals,
+    InputFirsts,
+    InputMarksInside,
+    InputEscapedData,
+    InputResets,
+    InputRecords,
+    InputBeyond,
+    InputEscapeNumbers,
+}
+
+const COUNT: usize = 22;
+
+/// Each property with its name and the least number of inputs it needs.
+#[rustfmt::skip]
+const PROPERTIES: [(Property, &str, u64); COUNT] = [
+    (Property::Fresh, "fresh reader", 256),
+    (Property::StreamKind, "stream: kind of answer", 40 * STREAMS),
+    (Property::StreamValue, "stream: character or refusal number", 40 * STREAMS),
+    (Property::StreamRequest, "stream: style, code and length", 40 * STREAMS),
+    (Property::StreamRecord, "stream: record after", 40 * STREAMS),
+    (Property::StreamBody, "stream: every lent byte", 40 * STREAMS),
+    (Property::StreamStopped, "stream: a stopped record is given back", STREAMS),
+    (Property::StepKind, "step: kind of answer", STEPS),
+    (Property::StepValue, "step: character or refusal number", STEPS),
+    (Property::StepRequest, "step: style, code and length", STEPS),
+    (Property::StepRecord, "step: record after", STEPS / 2),
+    (Property::StepBody, "step: every lent byte", STEPS),
+    (Property::StepStopped, "step: a stopped record is given back", STEPS / 10),
+    (Property::InputRequests, "inputs: finished requests of each code and style", 1),
+    (Property::InputRefusals, "inputs: each refusal in each place", 1),
+    (Property::InputFirsts, "inputs: each mark, first byte and character", 1),
+    (Property::InputMarksInside, "inputs: each mark inside each code", 1),
+    (Property::InputEscapedData, "inputs: &9B at each place of each body", 1),
+    (Property::InputResets, "inputs: resets inside and after a refusal", 1),
+    (Property::InputRecords, "inputs: records of each code and count", 1),
+    (Property::InputBeyond, "inputs: records beyond each limit", 1),
+    (Property::InputEscapeNumbers, "inputs: each escape number", 1),
+];
+
+/// For each property the inputs compared and the first difference.
+struct Report([(u64, Option<String>); COUNT]);
+
+impl Report {
+    fn check(&mut self, property: Property, good: bool, difference: impl FnOnce() -> String) {
+        let (inputs, first) = &mut self.0[property as usize];
+        *inputs += 1;
+        if !good && first.is_none() {
+            *first = Some(difference());
+        }
+    }
+
+    /// Prints the report; true where every property holds.
+    fn print(mut self) -> bool {
+        let mut passed = 0;
+        for (property, name, least) in PROPERTIES {
+            let (inputs, first) = &mut self.0[property as usize];
+            if *inputs < least && first.is_none() {
+                *first = Some(format!("only {inputs} inputs, {least} needed"));
+            }
+            match first {
+                None => {
+                    passed += 1;
+                    println!("ok {name}");
+                }
+                Some(difference) => println!("FAILED {name}: {difference}"),
+            }
+        }
+        println!("{passed} passed, {} failed", PROPERTIES.len() - passed);
+        passed == PROPERTIES.len()
+    }
+}
+
+/// The properties that one compared byte counts for.
+struct Group {
+    kind: Property,
+    value: Property,
+    request: Property,
+    record: Property,
+    body: Property,
+    stopped: Property,
+}
+
+const STREAM: Group = Group {
+    kind: Property::StreamKind,
+    value: Property::StreamValue,
+    request: Property::StreamRequest,
+    record: Property::StreamRecord,
+    body: Property::StreamBody,
+    stopped: Property::StreamStopped,
+};
+
+const STEP: Group = Group {
+    kind: Property::StepKind,
+    value: Property::StepValue,
+    request: Property::StepRequest,
+    record: Property::StepRecord,
+    body: Property::StepBody,
+    stopped: Property::StepStopped,
+};
+
+// ---- Random inputs ----
+
+/// Xorshift: the same inputs in every run.
+struct Random(u64);
+
+impl Random {
+    fn next(&mut self) -> u64 {
+        self.0 ^= self.0 >> 12;
+        self.0 ^= self.0 << 25;
+        self.0 ^= self.0 >> 27;
+        self.0.wrapping_mul(0x2545_F491_4F6C_DD1D)
+    }
+
+    /// A number below `limit`.
+    fn below(&mut self, limit: usize) -> usize {
+        ((self.next() >> 32) as usize) % limit
+    }
+
+    fn one_in(&mut self, times: usize) -> bool {
+        self.below(times) == 0
+    }
+
+    fn byte(&mut self) -> u8 {
+        (self.next() >> 56) as u8
+    }
+
+    /// A byte from `low` to 255.
+    fn at_least(&mut self, low: u8) -> u8 {
+        low + self.below(256 - low as usize) as u8
+    }
+
+    fn fill(&mut self, bytes: &mut [u8]) {
+        for part in bytes.chunks_mut(8) {
+            part.copy_from_slice(&self.next().to_le_bytes()[..part.len()]);
+        }
+    }
+
+    /// A byte at which some rule changes.
+    fn edge(&mut self) -> u8 {
+        const EDGES: [u8; 16] = [
+            0x9B, 0x9B, 0x9B, 0x0D, 0x0D, 0x00, 0x00, 0x01, 0x7F, 0x80, 0xFF, 0x9A, 0x9C, 0x16,
+            0x18, 0x0C,
+        ];
+        EDGES[self.below(EDGES.len())]
+    }
+
+    /// A byte of one of four mixtures: any byte, edges among them, half of them
+    /// &9B, nothing but &9B.
+    fn mixed(&mut self, mixture: usize) -> u8 {
+        match mixture {
+            1 if self.one_in(3) => self.edge(),
+            2 if self.one_in(2) => 0x9B,
+            3 => 0x9B,
+            _ => self.byte(),
+        }
+    }
+
+    /// A mark that starts a request on the serial carrier.
+    fn mark(&mut self) -> u8 {
+        ((self.below(4) << 5) + 2 * self.below(12)) as u8
+    }
+
+    /// The length of a string or block of 0 to 255 bytes.
+    fn length(&mut self) -> usize {
+        match self.below(16) {
+            0 => 0,
+            1 => 255 - self.below(3),
+            2 => self.below(256),
+            _ => self.below(24),
+        }
+    }
+
+    fn string(&mut self, mixture: usize, length: usize) -> Vec<u8> {
+        let mut string: Vec<u8> = (0..length).map(|_| self.mixed(mixture)).collect();
+        for byte in &mut string {
+            while *byte == 0x0D {
+                *byte = self.byte();
+            }
+        }
+        string
+    }
+
+    /// A good body for half a code, its string or block of this length.
+    fn body(&mut self, half: usize, mixture: usize, length: usize) -> Vec<u8> {
+        let close = half == 9 && length == 0 && self.one_in(2);
+        let start = match half {
+            1 => 0,
+            4 => length + 3,
+            9 if close => 2,
+            9 => 1,
+            10 => 16,
+            _ => LONGEST[half],
+        };
+        let mut body: Vec<u8> = (0..start).map(|_| self.mixed(mixture)).collect();
+        match half {
+            2 => body[1] &= 0x7F,
+            3 => body[2] |= 0x80,
+            4 => {
+                body[0] = body[0].max(1);
+                body[1] = length as u8;
+            }
+            9 if close => body[0] = 0,
+            9 => body[0] = body[0].max(1),
+            _ => {}
+        }
+        if [1, 9, 10].contains(&half) && !close {
+            body.extend(self.string(mixture, length));
+            body.push(0x0D);
+        }
+        if half == 10 {
+            body.push(self.mixed(mixture));
+        }
+        body
+    }
+
+    /// Breaks a rule of a good body.
+    fn break_body(&mut self, half: usize, body: &mut Vec<u8>) {
+        match half {
+            2 | 3 => *body.last_mut().unwrap() ^= 0x80,
+            4 => body[0] = 0,
+            1 | 9 | 10 => {
+                let mixture = self.below(4);
+                let mut start = match half {
+                    1 => vec![],
+                    9 => vec![self.at_least(1)],
+                    _ => body[..16].to_vec(),
+                };
+                let length = 256 + self.below(3);
+                start.extend(self.string(mixture, length));
+                *body = start;
+            }
+            _ => {}
+        }
+    }
+}
+
+// ---- What the inputs were ----
+
+/// The place of a byte: half the code it is inside, or 0 outside.
+fn place(reader: &Reader) -> usize {
+    match reader.phase {
+        INSIDE => reader.code as usize / 2,
+        _ => 0,
+    }
+}
+
+const SETS: [&str; 2] = ["streams", "single steps"];
+
+/// What the compared bytes of the streams and of the single steps have been.
+struct Seen {
+    /// By streams or steps, carrier, half the code and style.
+    finished: [[[[u64; 4]; 12]; 2]; 2],
+    /// By streams or steps, carrier, place and number.
+    refused: [[[[u64; 10]; 12]; 2]; 2],
+    /// First bytes of the parallel carrier; characters and marks of the serial.
+    firsts: [[bool; 256]; 3],
+    marks_inside: [[bool; 256]; 12],
+    /// &9B taken into the body, by carrier, half the code and index.
+    escaped: [[[bool; BODY]; 12]; 2],
+    resets_inside: u64,
+    resets_stopped: u64,
+    /// By carrier, half the code and count.
+    records: [[[u64; BODY]; 12]; 2],
+    /// By the limits that a record is beyond.
+    beyond: [u64; 8],
+    /// Escape numbers outside and inside.
+    escapes: [[bool; 256]; 2],
+}
+
+impl Seen {
+    fn new() -> Box<Seen> {
+        Box::new(Seen {
+            finished: [[[[0; 4]; 12]; 2]; 2],
+            refused: [[[[0; 10]; 12]; 2]; 2],
+            firsts: [[false; 256]; 3],
+            marks_inside: [[false; 256]; 12],
+            escaped: [[[false; BODY]; 12]; 2],
+            resets_inside: 0,
+            resets_stopped: 0,
+            records: [[[0; BODY]; 12]; 2],
+            beyond: [0; 8],
+            escapes: [[false; 256]; 2],
+        })
+    }
+
+    /// Notes an answer in a stream (0) or a single step (1).
+    fn answer(&mut self, set: usize, before: &Reader, answer: Read) {
+        let carrier = before.carrier as usize % 2;
+        match answer {
+            Read::Request { style, code, .. } => {
+                self.finished[set][carrier][code as usize / 2][style as usize] += 1;
+            }
+            Read::Refused(7) => self.refused[set][carrier][0][7] += 1,
+            Read::Refused(number) => {
+                self.refused[set][carrier][place(before)][number as usize] += 1;
+            }
+            _ => {}
+        }
+    }
+
+    /// Notes a byte of a stream.
+    fn stream(&mut self, before: &Reader, raw: u8, answer: Read) {
+        self.answer(0, before, answer);
+        let carrier = before.carrier as usize;
+        let inside = before.phase == INSIDE;
+        if before.stopped() {
+            return;
+        }
+        match (inside, before.carrier) {
+            (false, PARALLEL) => self.firsts[0][raw as usize] = true,
+            (false, _) => self.firsts[1 + before.escape as usize][raw as usize] = true,
+            (true, SERIAL) if before.escape => {
+                self.marks_inside[place(before)][raw as usize] = true;
+            }
+            _ => {}
+        }
+        let taken = before.carrier == PARALLEL || before.escape;
+        if inside && taken && raw == 0x9B && !matches!(answer, Read::Refused(_)) {
+            self.escaped[carrier][place(before)][before.count] = true;
+        }
+    }
+
+    fn reset(&mut self, reader: &Reader) {
+        if reader.stopped() {
+            self.resets_stopped += 1;
+        } else if reader.phase == INSIDE {
+            self.resets_inside += 1;
+        }
+    }
+
+    /// Notes a single step.
+    fn step(&mut self, record: &TubeReader, answer: Read) {
+        let reader = record.to_second();
+        self.answer(1, &reader, answer);
+        if !reader.stopped() {
+            let inside = (reader.phase == INSIDE) as usize;
+            self.escapes[inside][record.escape as usize] = true;
+            if inside == 1 {
+                self.records[reader.carrier as usize][place(&reader)][reader.count] += 1;
+            }
+            return;
+        }
+        // Counts only records with exactly one fault.
+        let good_code = record.code & 1 == 0 && (2..=0x16).contains(&record.code);
+        let inside = record.phase == INSIDE;
+        let faults = [
+            record.carrier > PARALLEL,
+            record.phase == 2,
+            record.phase > 2,
+            inside && record.carrier == SERIAL && record.style > 3,
+            inside && record.carrier == PARALLEL && record.style > 0,
+            inside && record.code == 0,
+            inside && record.code != 0 && !good_code,
+            inside && good_code && record.count >= LONGEST[record.code as usize / 2],
+        ];
+        if faults.iter().filter(|&&fault| fault).count() == 1 {
+            let only = faults.iter().position(|&fault| fault).unwrap();
+            self.beyond[only] += 1;
+        }
+    }
+
+    fn report(&self, report: &mut Report) {
+        let mut need = |property: Property, missing: Option<String>| {
+            report.check(property, missing.is_none(), || {
+                format!("too few {}", missing.unwrap())
+            });
+        };
+        need(Property::InputRequests, self.few_requests());
+        need(Property::InputRefusals, self.few_refusals());
+        need(Property::InputFirsts, self.few_firsts());
+        need(Property::InputMarksInside, self.few_marks_inside());
+        need(Property::InputEscapedData, self.few_escaped());
+        let few_resets = match (self.resets_inside, self.resets_stopped) {
+            (..5000, _) => Some("resets inside a request".to_string()),
+            (_, ..5000) => Some("resets of a stopped reader".to_string()),
+            _ => None,
+        };
+        need(Property::InputResets, few_resets);
+        need(Property::InputRecords, self.few_records());
+        let few_beyond = (0..8).find(|&limit| self.beyond[limit] < 1000);
+        let few_beyond = few_beyond.map(|limit| format!("records beyond limit {limit} alone"));
+        need(Property::InputBeyond, few_beyond);
+        let few_escapes = (0..512).find(|&at| !self.escapes[at / 256][at % 256]);
+        let few_escapes =
+            few_escapes.map(|at| format!("escape numbers {}, phase {}", at % 256, at / 256));
+        need(Property::InputEscapeNumbers, few_escapes);
+    }
+
+    fn few_requests(&self) -> Option<String> {
+        for (set, finished) in self.finished.iter().enumerate() {
+            for (carrier, half, style) in every(2, 12, 4) {
+                let possible = carrier == 0 || style == 0;
+                if possible && finished[carrier][half][style] < 200 {
+                    return Some(format!(
+                        "requests &{:02X}, style {style}, carrier {carrier}, in {}",
+                        2 * half,
+                        SETS[set]
+                    ));
+                }
+            }
+        }
+        None
+    }
+
+    fn few_refusals(&self) -> Option<String> {
+        for (set, refused) in self.refused.iter().enumerate() {
+            for (carrier, half, number) in every(2, 12, 10) {
+                let possible = match number {
+                    4 | 7 => half == 0,
+                    5 => half != 0 && carrier == 0,
+                    6 => [1, 9, 10].contains(&half),
+                    9 => [2, 3, 4].contains(&half),
+                    _ => false,
+                };
+                if possible && refused[carrier][half][number] < 100 {
+                    return Some(format!(
+                        "refusals {number}, place &{:02X}, carrier {carrier}, in {}",
+                        2 * half,
+                        SETS[set]
+                    ));
+                }
+            }
+        }
+        None
+    }
+
+    fn few_firsts(&self) -> Option<String> {
+        const NAMES: [&str; 3] = ["first bytes", "characters", "marks"];
+        for (_, list, byte) in every(1, 3, 256) {
+            if !self.firsts[list][byte] {
+                return Some(format!("{} &{byte:02X}", NAMES[list]));
+            }
+        }
+        None
+    }
+
+    fn few_marks_inside(&self) -> Option<String> {
+        for (_, half, mark) in every(1, 12, 256) {
+            if half != 0 && !self.marks_inside[half][mark] {
+                return Some(format!("marks &{mark:02X} inside &{:02X}", 2 * half));
+            }
+        }
+        None
+    }
+
+    fn few_escaped(&self) -> Option<String> {
+        // The last byte of a longest string is its end, and OSBYTE low's A is
+        // below &80.
+        const PLACES: [usize; 12] = [0, 255, 1, 3, 258, 5, 6, 1, 2, 256, 273, 14];
+        for (carrier, half, index) in every(2, 12, BODY) {
+            if index < PLACES[half] && !self.escaped[carrier][half][index] {
+                let code = 2 * half;
+                return Some(format!(
+                    "&9B at index {index} of &{code:02X}, carrier {carrier}"
+                ));
+            }
+        }
+        None
+    }
+
+    fn few_records(&self) -> Option<String> {
+        for (carrier, half, count) in every(2, 12, BODY) {
+            if count < LONGEST[half] && self.records[carrier][half][count] < 200 {
+                let code = 2 * half;
+                return Some(format!(
+                    "records of code &{code:02X}, count {count}, carrier {carrier}"
+                ));
+            }
+        }
+        None
+    }
+}
+
+/// Every triple below these limits.
+fn every(a: usize, b: usize, c: usize) -> impl Iterator<Item = (usize, usize, usize)> {
+    (0..a * b * c).map(move |at| (at / (b * c), at / c % b, at % c))
+}
+
+// ---- One byte ----
+
+/// The library's record and lent bytes, and the second program's.
+struct Pair {
+    record: TubeReader,
+    library: Lent,
+    reader: Reader,
+    second: Lent,
+}
+
+/// Gives one byte to both and compares; the second program's answer, and
+/// whether all was equal.
+fn compare_byte(
+    pair: &mut Pair,
+    raw: u8,
+    group: &Group,
+    report: &mut Report,
+    what: &dyn Fn() -> String,
+) -> (Read, bool) {
+    let (record, reader) = (pair.record, pair.reader);
+    let library = library_read(record, raw, &mut pair.library);
+    let answer = pair.reader.read(raw, body(&mut pair.second));
+    let after = library.reader;
+    pair.record = after;
+
+    let (kind, value, request) = match answer {
+        Read::More => (0, 0, (0, 0, 0)),
+        Read::Character(byte) => (1, byte, (0, 0, 0)),
+        Read::Request {
+            style,
+            code,
+            length,
+        } => (2, 0, (style, code, length)),
+        Read::Refused(number) => (3, number, (0, 0, 0)),
+    };
+    let what = || format!("byte &{raw:02X} on {record:?}, {}", what());
+    let mut all = true;
+    let mut check = |property: Property, good: bool, difference: &dyn Fn() -> String| {
+        all &= good;
+        report.check(property, good, || format!("{}: {}", difference(), what()));
+    };
+    check(group.kind, library.kind == kind, &|| {
+        format!("{library:?}, second program {answer:?}")
+    });
+    check(group.value, library.value == value, &|| {
+        format!("{library:?}, second program {answer:?}")
+    });
+    let given = (library.style, library.code, library.length);
+    check(group.request, given == request, &|| {
+        format!("{library:?}, second program {answer:?}")
+    });
+    if reader.stopped() {
+        check(group.stopped, after == record, &|| format!("{after:?}"));
+    } else {
+        check(group.record, after.to_second() == pair.reader, &|| {
+            format!("{after:?}, second program {:?}", pair.reader)
+        });
+    }
+    check(group.body, pair.library == pair.second, &|| {
+        let at = (0..pair.library.len()).find(|&at| pair.library[at] != pair.second[at]);
+        let at = at.unwrap();
+        format!(
+            "lent byte {} is &{:02X}, second program &{:02X}",
+            at as isize - GUARD as isize,
+            pair.library[at],
+            pair.second[at]
+        )
+    });
+    (answer, all)
+}
+
+// ---- Streams ----
+
+const STREAMS: u64 = 240_000;
+
+/// A raw byte, or a reset.
+type Event = Option<u8>;
+
+fn put_mark(events: &mut Vec<Event>, carrier: u8, style: usize, half: usize) {
+    if carrier == SERIAL {
+        events.push(Some(0x9B));
+        events.push(Some(((style << 5) + 2 * half) as u8));
+    } else {
+        events.push(Some(2 * half as u8));
+    }
+}
+
+fn put_data(events: &mut Vec<Event>, carrier: u8, bytes: &[u8]) {
+    for &byte in bytes {
+        events.push(Some(byte));
+        if carrier == SERIAL && byte == 0x9B {
+            events.push(Some(byte));
+        }
+    }
+}
+
+/// One to four requests, with characters between; some bodies break a rule.
+fn requests(random: &mut Random, carrier: u8, broken: bool) -> Vec<Event> {
+    let mut events = Vec::new();
+    for _ in 0..1 + random.below(4) {
+        let mixture = random.below(4);
+        if carrier == SERIAL && random.one_in(2) {
+            let length = random.below(6);
+            let characters: Vec<u8> = (0..length).map(|_| random.mixed(mixture)).collect();
+            put_data(&mut events, carrier, &characters);
+        }
+        let half = match broken {
+            true if random.one_in(2) => [1, 2, 3, 4, 9, 10][random.below(6)],
+            _ => random.below(12),
+        };
+        put_mark(&mut events, carrier, random.below(4), half);
+        let length = random.length();
+        let mut body = random.body(half, mixture, length);
+        if broken && random.one_in(2) {
+            random.break_body(half, &mut body);
+        }
+        put_data(&mut events, carrier, &body);
+    }
+    events
+}
+
+/// Cuts, flips, inserts, drops, repeats and resets.
+fn damage(random: &mut Random, events: &mut Vec<Event>) {
+    for _ in 0..1 + random.below(4) {
+        let at = random.below(events.len() + 1);
+        let within = at < events.len();
+        match random.below(10) {
+            0 => events.truncate(at),
+            1 | 2 if within => events[at] = events[at].map(|byte| byte ^ 1 << random.below(8)),
+            3 if within => events[at] = Some(random.edge()),
+            4 if within => {
+                events.remove(at);
+            }
+            5 if within => {
+                let from = at.saturating_sub(random.below(8));
+                events.drain(from..=at);
+            }
+            6 if within => events.insert(at, events[at]),
+            7 => events.insert(at, None),
+            8 => {
+                let mark = random.mark();
+                events.splice(at..at, [Some(0x9B), Some(mark)]);
+            }
+            _ => {
+                let byte = random.mixed(1);
+                events.insert(at, Some(byte));
+            }
+        }
+    }
+    if events.is_empty() {
+        events.push(Some(random.byte()));
+    }
+}
+
+/// Any bytes, or those at which rules change; now and then a good start.
+fn noise(random: &mut Random, carrier: u8) -> Vec<Event> {
+    let mixture = random.below(3);
+    let mut events = Vec::new();
+    if random.one_in(2) {
+        put_mark(&mut events, carrier, random.below(4), 1 + random.below(11));
+    }
+    let most = if random.one_in(8) { 600 } else { 60 };
+    for _ in 0..1 + random.below(most) {
+        events.push(match random.below(64) {
+            0 => None,
+            1..8 => Some(random.mark()),
+            _ => Some(random.mixed(mixture)),
+        });
+    }
+    events
+}
+
+/// Plays a stream on both. A stopped reader gets a few more bytes, then a reset.
+fn compare_stream(
+    random: &mut Random,
+    carrier: u8,
+    events: &[Event],
+    name: &str,
+    seen: &mut Seen,
+    report: &mut Report,
+) {
+    let mut start = [0; GUARD + BODY + GUARD];
+    random.fill(&mut start);
+    let mut pair = Pair {
+        record: unsafe { tube_reader(carrier) },
+        library: start,
+        reader: Reader::new(carrier),
+        second: start,
+    };
+    for (at, &event) in events.iter().enumerate() {
+        let stopped = pair.reader.stopped();
+        let Some(raw) = event else {
+            seen.reset(&pair.reader);
+            pair.record = unsafe { tube_reader(carrier) };
+            pair.reader = Reader::new(carrier);
+            continue;
+        };
+        if stopped && random.one_in(6) {
+            seen.reset(&pair.reader);
+            pair.record = unsafe { tube_reader(carrier) };
+            pair.reader = Reader::new(carrier);
+        }
+        let before = pair.reader;
+        let what = || {
+            let shown: Vec<String> = events[at.saturating_sub(24)..=at]
+                .iter()
+                .map(|event| event.map_or("reset".to_string(), |byte| format!("{byte:02X}")))
+                .collect();
+            format!("{name}, byte {at}, up to it {}", shown.join(" "))
+        };
+        let (answer, equal) = compare_byte(&mut pair, raw, &STREAM, report, &what);
+        seen.stream(&before, raw, answer);
+        // Later bytes are compared from the same state again.
+        if !equal {
+            pair.record = TubeReader::from_second(&pair.reader);
+            pair.library = pair.second;
+        }
+    }
+}
+
+fn compare_streams(random: &mut Random, seen: &mut Seen, report: &mut Report) {
+    for number in 0..STREAMS {
+        let carrier = (random.below(5) > 2) as u8;
+        let (kind, mut events) = match number % 8 {
+            0 | 1 => ("good", requests(random, carrier, false)),
+            2 | 3 => ("broken", requests(random, carrier, true)),
+            4..=6 => ("damaged", requests(random, carrier, false)),
+            _ => ("noise", noise(random, carrier)),
+        };
+        if kind == "damaged" {
+            damage(random, &mut events);
+        }
+        let name = format!("{kind} stream {number}");
+        compare_stream(random, carrier, &events, &name, seen, report);
+    }
+}
+
+/// Requests of every length with &9B at one place or at all, all styles; every
+/// mark outside and inside each code; every first byte and character.
+fn compare_each(random: &mut Random, seen: &mut Seen, report: &mut Report) {
+    let carriers = [
+        (SERIAL, 0),
+        (SERIAL, 1),
+        (SERIAL, 2),
+        (SERIAL, 3),
+        (PARALLEL, 0),
+    ];
+    for (carrier, style) in carriers {
+        for half in 0..12 {
+            let lengths = if [1, 4, 9, 10].contains(&half) {
+                256
+            } else {
+                20
+            };
+            for length in 0..lengths {
+                let all = random.body(half, 3, length);
+                let mut one = random.body(half, 0, length);
+                // Not where it would break a rule or end up as a length.
+                let place = random.below(one.len().max(1));
+                let free = match half {
+                    2 => place == 0,
+                    4 => place != 1,
+                    9 => one[0] != 0 && one[place] != 0x0D,
+                    _ => one.get(place).is_some_and(|&byte| byte != 0x0D),
+                };
+                if free {
+                    one[place] = 0x9B;
+                }
+                for body in [all, one] {
+                    let mut events = Vec::new();
+                    put_mark(&mut events, carrier, style, half);
+                    put_data(&mut events, carrier, &body);
+                    put_mark(&mut events, carrier, style, 0);
+                    let name = format!("request with &9B, code &{:02X}", 2 * half);
+                    compare_stream(random, carrier, &events, &name, seen, report);
+                }
+            }
+        }
+    }
+    for byte in 0..=255 {
+        for carrier in [SERIAL, PARALLEL] {
+            let events = [Some(byte), Some(0x00), Some(byte)];
+            compare_stream(random, carrier, &events, "first byte", seen, report);
+            let events = [Some(0x9B), Some(byte), Some(byte), Some(0x41)];
+            compare_stream(random, carrier, &events, "mark", seen, report);
+        }
+        for half in 1..12 {
+            let length = random.length();
+            let body = random.body(half, 1, length);
+            let cut = random.below(body.len());
+            let mut events = Vec::new();
+            put_mark(&mut events, SERIAL, random.below(4), half);
+            put_data(&mut events, SERIAL, &body[..cut]);
+            events.extend([Some(0x9B), Some(byte), Some(byte)]);
+            compare_stream(random, SERIAL, &events, "mark inside", seen, report);
+        }
+    }
+}
+
+// ---- Single steps from any record ----
+
+const STEPS: u64 = 4_000_000;
+
+impl Random {
+    /// A record within its limits and beyond.
+    fn record(&mut self) -> TubeReader {
+        let carrier = match self.below(24) {
+            0 => self.at_least(2),
+            at => at as u8 % 2,
+        };
+        let phase = match self.below(24) {
+            0 => self.at_least(3),
+            1 => 2,
+            2..8 => OUTSIDE,
+            _ => INSIDE,
+        };
+        let escape = match self.below(6) {
+            0..3 => 0,
+            3 => 1,
+            _ => self.byte(),
+        };
+        let style = match self.below(24) {
+            0 => self.byte(),
+            1 => 4,
+            2 => 1,
+            _ if carrier == PARALLEL => 0,
+            _ => self.below(4) as u8,
+        };
+        let code = match self.below(24) {
+            0 => self.byte(),
+            1 => 0,
+            2 => 0x17 + self.below(3) as u8,
+            3 => self.below(0x18) as u8 | 1,
+            4..10 => [0x02, 0x08, 0x12, 0x14][self.below(4)],
+            _ => 2 + 2 * self.below(11) as u8,
+        };
+        let longest = LONGEST.get(code as usize / 2).map_or(14, |&most| most);
+        let count = match self.below(32) {
+            0 => longest,
+            1 => longest + 1 + self.below(20),
+            2 => self.next() as usize,
+            3 => usize::MAX - self.below(300),
+            // Within the limit in its lowest bits only.
+            4 => self.below(longest + 1) + (256 << self.below(40)),
+            5..8 => longest.saturating_sub(1 + self.below(3)),
+            8..10 => self.below(20).min(longest),
+            10..14 => self.below(3),
+            _ => self.below(longest.max(1)),
+        };
+        TubeReader {
+            count,
+            carrier,
+            phase,
+            escape,
+            style,
+            code,
+        }
+    }
+
+    /// Lent bytes, near the rules that look at them in many cases.
+    fn lent(&mut self, count: usize) -> Lent {
+        let mut lent = [0; GUARD + BODY + GUARD];
+        match self.below(8) {
+            0 => lent.fill(self.edge()),
+            _ => self.fill(&mut lent),
+        }
+        let bytes = body(&mut lent);
+        if self.one_in(3) {
+            bytes[0] = self.edge();
+        }
+        if self.one_in(2) {
+            let near = count.wrapping_sub(4).wrapping_add(self.below(5));
+            bytes[1] = near.min(255) as u8;
+        }
+        if (1..=BODY).contains(&count) && self.one_in(2) {
+            bytes[count - 1] = 0x0D;
+        }
+        lent
+    }
+
+    fn raw(&mut self) -> u8 {
+        match self.below(4) {
+            0 => self.byte(),
+            1 => self.mark(),
+            _ => self.edge(),
+        }
+    }
+}
+
+fn compare_step(record: TubeReader, raw: u8, lent: &Lent, seen: &mut Seen, report: &mut Report) {
+    let mut pair = Pair {
+        record,
+        library: *lent,
+        reader: record.to_second(),
+        second: *lent,
+    };
+    let what = || {
+        let count = record.count.clamp(1, BODY);
+        format!(
+            "lent bytes {:02X?}, the one before the count &{:02X}",
+            &lent[GUARD..GUARD + 4],
+            lent[GUARD + count - 1]
+        )
+    };
+    let (answer, _) = compare_byte(&mut pair, raw, &STEP, report, &what);
+    seen.step(&record, answer);
+}
+
+fn compare_steps(random: &mut Random, seen: &mut Seen, report: &mut Report) {
+    for carrier in 0..=255 {
+        let fresh = unsafe { tube_reader(carrier) };
+        let expected = TubeReader {
+            count: 0,
+            carrier,
+            phase: OUTSIDE,
+            escape: 0,
+            style: 0,
+            code: 0,
+        };
+        report.check(Property::Fresh, fresh == expected, || {
+            format!("{fresh:?}, carrier {carrier}")
+        });
+    }
+
+    // Every code and count around the limits, with the bytes at which rules
+    // change; then every byte and escape number.
+    for (carrier, code, count) in every(2, 0x1A, BODY + 4) {
+        for raw in [0x9B, 0x0D, 0x00, 0x7F, 0x80, 0x41] {
+            for escape in [0, random.at_least(1)] {
+                let record = TubeReader {
+                    count,
+                    carrier: carrier as u8,
+                    phase: INSIDE,
+                    escape,
+                    style: 0,
+                    code: code as u8,
+                };
+                let lent = random.lent(count);
+                compare_step(record, raw, &lent, seen, report);
+            }
+        }
+    }
+    for (phase, raw, escape) in every(4, 256, 256) {
+        let mut record = random.record();
+        record.phase = phase as u8;
+        record.escape = escape as u8;
+        let lent = random.lent(record.count);
+        compare_step(record, raw as u8, &lent, seen, report);
+    }
+    for _ in 0..STEPS {
+        let record = random.record();
+        let lent = random.lent(record.count);
+        let raw = random.raw();
+        compare_step(record, raw, &lent, seen, report);
+    }
+}
+
+fn main() -> ExitCode {
+    let mut random = Random(0x0123_4567_89AB_CDEF);
+    let mut report = Report(std::array::from_fn(|_| (0, None)));
+    let mut seen = Seen::new();
+    compare_streams(&mut random, &mut seen, &mut report);
+    compare_each(&mut random, &mut seen, &mut report);
+    compare_steps(&mut random, &mut seen, &mut report);
+    seen.report(&mut report);
+    if report.print() {
+        ExitCode::SUCCESS
+    } else {
+        ExitCode::FAILURE
+    }
+}

@@ -1,0 +1,737 @@
+//! A second program for the requests of the serial protocol: the escape layer,
+//! the stepwise reader and the writer, on the serial and the parallel carrier.
+//! It is written from the rules alone and shares nothing with the proved
+//! library.
+
+// Carriers.
+pub const SERIAL: u8 = 0;
+pub const PARALLEL: u8 = 1;
+
+// Phases of a reader.
+const OUTSIDE: u8 = 0;
+const INSIDE: u8 = 1;
+const STOPPED: u8 = 2;
+
+// Refusals.
+const NOT_CARRIED: u8 = 4;
+const MARK_INSIDE: u8 = 5;
+const LONG_STRING: u8 = 6;
+const READER_STOPPED: u8 = 7;
+const SHORT_BUFFER: u8 = 8;
+const BROKEN_RULE: u8 = 9;
+
+const ESCAPE: u8 = 0x9B;
+const STRING_END: u8 = 0x0D;
+const LONGEST_STRING: usize = 255;
+const FILE_BLOCK: usize = 16;
+
+const LAST_CODE: u8 = 0x16;
+const LAST_STYLE: u8 = 3;
+
+/// The longest body of each code, by half the code.
+const LONGEST: [usize; 12] = [0, 256, 2, 3, 258, 5, 6, 1, 2, 257, BODY, 14];
+
+/// The longest body of all.
+pub const BODY: usize = 273;
+
+// ---- The escape layer ----
+
+/// What a raw byte of the serial carrier is, after an escape or not.
+enum Unit {
+    Escape,
+    Data(u8),
+    Mark(u8),
+}
+
+#[inline]
+fn unit(escape: bool, raw: u8) -> Unit {
+    match (escape, raw == ESCAPE) {
+        (false, true) => Unit::Escape,
+        (true, false) => Unit::Mark(raw),
+        _ => Unit::Data(raw),
+    }
+}
+
+/// How many of the bytes are doubled; they are fewer than 65,536.
+#[inline]
+fn escapes(bytes: &[u8]) -> usize {
+    let doubled: u16 = bytes.iter().map(|&byte| (byte == ESCAPE) as u16).sum();
+    doubled as usize
+}
+
+// ---- The reader ----
+
+#[derive(Clone, Copy, PartialEq, Debug)]
+pub struct Reader {
+    pub carrier: u8,
+    pub phase: u8,
+    /// The last raw byte was the first of an escape pair.
+    pub escape: bool,
+    pub style: u8,
+    pub code: u8,
+    /// How many bytes of the body have been taken.
+    pub count: usize,
+}
+
+/// The answer to one raw byte.
+#[derive(Clone, Copy, PartialEq, Debug)]
+pub enum Read {
+    More,
+    Character(u8),
+    /// The body is the first `length` of the lent bytes.
+    Request {
+        style: u8,
+        code: u8,
+        length: usize,
+    },
+    Refused(u8),
+}
+
+impl Reader {
+    pub fn new(carrier: u8) -> Reader {
+        Reader {
+            carrier,
+            phase: OUTSIDE,
+            escape: false,
+            style: 0,
+            code: 0,
+            count: 0,
+        }
+    }
+
+    /// Stopped, or a record beyond its limits.
+    #[inline]
+    pub fn stopped(&self) -> bool {
+        match (self.phase, self.carrier) {
+            (OUTSIDE, carrier) => carrier > PARALLEL,
+            (INSIDE, SERIAL) => self.style > LAST_STYLE || self.beyond(),
+            (INSIDE, PARALLEL) => self.style != 0 || self.beyond(),
+            _ => true,
+        }
+    }
+
+    /// The code has no body, or the count is not below its longest one.
+    #[inline]
+    fn beyond(&self) -> bool {
+        self.code & 1 != 0 || self.code > LAST_CODE || self.count >= longest(self.code)
+    }
+
+    /// Reads one raw byte.
+    #[inline]
+    pub fn read(&mut self, raw: u8, body: &mut [u8; BODY]) -> Read {
+        if self.stopped() {
+            return Read::Refused(READER_STOPPED);
+        }
+        // The parallel carrier has no escapes: a byte taken leaves none.
+        if self.carrier == PARALLEL {
+            return match self.phase {
+                INSIDE => self.take(raw, body),
+                _ if raw & 1 != 0 || raw > LAST_CODE => self.refuse(NOT_CARRIED),
+                _ => self.begin(0, raw),
+            };
+        }
+        match (self.phase, unit(self.escape, raw)) {
+            (INSIDE, Unit::Data(byte)) => self.take(byte, body),
+            (INSIDE, Unit::Mark(_)) => self.refuse(MARK_INSIDE),
+            (INSIDE, Unit::Escape) => {
+                self.escape = true;
+                Read::More
+            }
+            (_, Unit::Data(byte)) => {
+                self.rest(false);
+                Read::Character(byte)
+            }
+            (_, Unit::Mark(mark)) => {
+                let code = mark & 0x1F;
+                if mark & 0x81 != 0 || code > LAST_CODE {
+                    return self.refuse(NOT_CARRIED);
+                }
+                self.begin(mark >> 5, code)
+            }
+            (_, Unit::Escape) => {
+                self.rest(true);
+                Read::More
+            }
+        }
+    }
+
+    fn refuse(&mut self, number: u8) -> Read {
+        self.phase = STOPPED;
+        Read::Refused(number)
+    }
+
+    /// Outside a request, nothing kept but the escape.
+    fn rest(&mut self, escape: bool) {
+        *self = Reader {
+            escape,
+            ..Reader::new(self.carrier)
+        };
+    }
+
+    fn begin(&mut self, style: u8, code: u8) -> Read {
+        self.rest(false);
+        if code == 0 {
+            return Read::Request {
+                style,
+                code,
+                length: 0,
+            };
+        }
+        self.phase = INSIDE;
+        self.style = style;
+        self.code = code;
+        Read::More
+    }
+
+    /// Takes one byte of the body.
+    #[inline]
+    fn take(&mut self, byte: u8, body: &mut [u8; BODY]) -> Read {
+        let last = match is_last(self.code, self.count, byte, body) {
+            Ok(last) => last,
+            Err(number) => return self.refuse(number),
+        };
+        body[self.count] = byte;
+        let length = self.count + 1;
+        if !last {
+            self.count = length;
+            self.escape = false;
+            return Read::More;
+        }
+        let (style, code) = (self.style, self.code);
+        self.rest(false);
+        Read::Request {
+            style,
+            code,
+            length,
+        }
+    }
+}
+
+#[inline]
+fn longest(code: u8) -> usize {
+    LONGEST[code as usize / 2]
+}
+
+/// Whether `byte`, at index `count` of the body, is its last one, or why it is
+/// refused.
+#[inline]
+fn is_last(code: u8, count: usize, byte: u8, body: &[u8; BODY]) -> Result<bool, u8> {
+    match (code, count) {
+        (0x02, _) => ends_string(count, byte),
+        (0x04, 1) if byte >= 0x80 => Err(BROKEN_RULE),
+        (0x06, 2) if byte < 0x80 => Err(BROKEN_RULE),
+        (0x08, 0) if byte == 0 => Err(BROKEN_RULE),
+        (0x08, 0 | 1) => Ok(false),
+        (0x08, _) => Ok(count - 2 >= body[1] as usize),
+        (0x12, 0) => Ok(false),
+        (0x12, _) if body[0] == 0 => Ok(true),
+        (0x12, _) => ends_string(count - 1, byte),
+        (0x14, ..FILE_BLOCK) => Ok(false),
+        (0x14, FILE_BLOCK) => ends_string(0, byte).map(|_| false),
+        (0x14, _) if body[count - 1] == STRING_END => Ok(true),
+        (0x14, _) => ends_string(count - FILE_BLOCK, byte).map(|_| false),
+        _ => Ok(count + 1 == longest(code)),
+    }
+}
+
+/// Whether `byte` ends a string that has `count` bytes so far.
+#[inline]
+fn ends_string(count: usize, byte: u8) -> Result<bool, u8> {
+    match byte == STRING_END {
+        true if count <= LONGEST_STRING => Ok(true),
+        false if count < LONGEST_STRING => Ok(false),
+        _ => Err(LONG_STRING),
+    }
+}
+
+// ---- The writer ----
+
+/// A request to be written. Numbers that the call does not have are ignored.
+#[derive(Clone, Copy, Debug)]
+pub struct Request<'a> {
+    pub carrier: u8,
+    pub style: u8,
+    /// 0 OSRDCHIO, 1 OSCLI, 2 OSBYTE low, 3 OSBYTE high, 4 OSWORD, 5 OSWORD 0,
+    /// 6 OSARGS, 7 OSBGET, 8 OSBPUT, 9 OSFIND close, 10 OSFIND open, 11 OSFILE,
+    /// 12 OSGBPB.
+    pub call: u8,
+    pub x: u8,
+    pub y: u8,
+    pub a: u8,
+    pub out_length: u8,
+    pub block: &'a [u8],
+    pub text: &'a [u8],
+}
+
+/// The fields of a body around its block and its string.
+struct Fields {
+    code: u8,
+    head: [u8; 3],
+    head_length: usize,
+    /// The block lengths that the call allows.
+    block: (usize, usize),
+    string: bool,
+    tail: Option<u8>,
+    /// The numbers keep their rule.
+    good: bool,
+}
+
+impl Fields {
+    fn new(code: u8, head: &[u8]) -> Fields {
+        let mut fields = Fields {
+            code,
+            head: [0; 3],
+            head_length: head.len(),
+            block: (0, 0),
+            string: false,
+            tail: None,
+            good: true,
+        };
+        fields.head[..head.len()].copy_from_slice(head);
+        fields
+    }
+
+    fn block(self, least: usize, most: usize) -> Fields {
+        Fields {
+            block: (least, most),
+            ..self
+        }
+    }
+
+    fn string(self) -> Fields {
+        Fields {
+            string: true,
+            ..self
+        }
+    }
+
+    fn tail(self, byte: u8) -> Fields {
+        Fields {
+            tail: Some(byte),
+            ..self
+        }
+    }
+
+    fn only_if(self, good: bool) -> Fields {
+        Fields { good, ..self }
+    }
+}
+
+impl Request<'_> {
+    fn fields(&self) -> Option<Fields> {
+        let Request { x, y, a, .. } = *self;
+        let fields = match self.call {
+            0 => Fields::new(0x00, &[]),
+            1 => Fields::new(0x02, &[]).string(),
+            2 => Fields::new(0x04, &[x, a]).only_if(a < 0x80),
+            3 => Fields::new(0x06, &[x, y, a]).only_if(a >= 0x80),
+            4 => Fields::new(0x08, &[a, self.block.len() as u8])
+                .block(0, 255)
+                .tail(self.out_length)
+                .only_if(a != 0),
+            5 => Fields::new(0x0A, &[]).block(5, 5),
+            6 => Fields::new(0x0C, &[y]).block(4, 4).tail(a),
+            7 => Fields::new(0x0E, &[y]),
+            8 => Fields::new(0x10, &[y, a]),
+            9 => Fields::new(0x12, &[0, y]),
+            10 => Fields::new(0x12, &[a]).string().only_if(a != 0),
+            11 => Fields::new(0x14, &[])
+                .block(FILE_BLOCK, FILE_BLOCK)
+                .string()
+                .tail(a),
+            12 => Fields::new(0x16, &[]).block(13, 13).tail(a),
+            _ => return None,
+        };
+        Some(fields)
+    }
+
+    /// Writes the request to the start of `out`: the length of the encoding, or
+    /// the refusal.
+    pub fn write(&self, out: &mut [u8]) -> Result<usize, u8> {
+        let (block, text) = (self.block, self.text);
+        if text.len() > LONGEST_STRING {
+            return Err(LONG_STRING);
+        }
+        let last_style = match self.carrier {
+            SERIAL => LAST_STYLE,
+            PARALLEL => 0,
+            _ => return Err(BROKEN_RULE),
+        };
+        let fields = self.fields().ok_or(BROKEN_RULE)?;
+        let (least, most) = fields.block;
+        if self.style > last_style
+            || !fields.good
+            || block.len() < least
+            || block.len() > most
+            || !fields.string && !text.is_empty()
+            || text.contains(&STRING_END)
+        {
+            return Err(BROKEN_RULE);
+        }
+
+        let head = &fields.head[..fields.head_length];
+        let end: &[u8] = if fields.string { &[STRING_END] } else { &[] };
+        let parts = [head, block, text, end, fields.tail.as_slice()];
+        let plain: usize = parts.iter().map(|part| part.len()).sum();
+        if self.carrier == PARALLEL {
+            let size = 1 + plain;
+            let out = out.get_mut(..size).ok_or(SHORT_BUFFER)?;
+            out[0] = fields.code;
+            put_plain(&mut out[1..], parts);
+            return Ok(size);
+        }
+        let doubled: usize = parts.iter().map(|part| escapes(part)).sum();
+        let size = 2 + plain + doubled;
+        let out = out.get_mut(..size).ok_or(SHORT_BUFFER)?;
+        out[0] = ESCAPE;
+        out[1] = self.style << 5 | fields.code;
+        if doubled == 0 {
+            put_plain(&mut out[2..], parts);
+        } else {
+            put_escaped(&mut out[2..], parts);
+        }
+        Ok(size)
+    }
+}
+
+fn put_plain(mut out: &mut [u8], parts: [&[u8]; 5]) {
+    for part in parts {
+        let (place, rest) = out.split_at_mut(part.len());
+        place.copy_from_slice(part);
+        out = rest;
+    }
+}
+
+fn put_escaped(out: &mut [u8], parts: [&[u8]; 5]) {
+    let mut at = 0;
+    for part in parts {
+        // Pieces without an escape are copied whole.
+        for piece in part.chunks(16) {
+            if escapes(piece) == 0 {
+                out[at..at + piece.len()].copy_from_slice(piece);
+                at += piece.len();
+                continue;
+            }
+            for &byte in piece {
+                out[at] = byte;
+                at += 1;
+                if byte == ESCAPE {
+                    out[at] = ESCAPE;
+                    at += 1;
+                }
+            }
+        }
+    }
+}
+
+#[cfg(test)]
+mod tests {
+    use super::*;
+
+    const MORE: Read = Read::More;
+
+    /// Reads a stream with a fresh reader: the answers and the lent bytes.
+    fn read(carrier: u8, stream: &[u8]) -> (Vec<Read>, [u8; BODY]) {
+        let mut reader = Reader::new(carrier);
+        let mut body = [0xEE; BODY];
+        let answers = stream
+            .iter()
+            .map(|&raw| reader.read(raw, &mut body))
+            .collect();
+        (answers, body)
+    }
+
+    fn last(carrier: u8, stream: &[u8]) -> Read {
+        let (answers, _) = read(carrier, stream);
+        let (last, before) = answers.split_last().unwrap();
+        assert!(before.iter().all(|&answer| answer == MORE));
+        *last
+    }
+
+    fn request(style: u8, code: u8, length: usize) -> Read {
+        Read::Request {
+            style,
+            code,
+            length,
+        }
+    }
+
+    fn blank(carrier: u8, call: u8) -> Request<'static> {
+        Request {
+            carrier,
+            style: 0,
+            call,
+            x: 0,
+            y: 0,
+            a: 0,
+            out_length: 0,
+            block: &[],
+            text: &[],
+        }
+    }
+
+    #[test]
+    fn c9_osargs() {
+        let stream = [0x9B, 0x0C, 0x9B, 0x9B, 0, 0, 1, 0x9B, 0x9B, 1];
+        let (answers, body) = read(SERIAL, &stream);
+        assert!(answers[..9].iter().all(|&answer| answer == MORE));
+        assert_eq!(answers[9], request(0, 0x0C, 6));
+        assert_eq!(body[..6], [0x9B, 0, 0, 1, 0x9B, 1]);
+        assert!(body[6..].iter().all(|&byte| byte == 0xEE));
+        let osargs = Request {
+            y: 0x9B,
+            a: 1,
+            block: &[0, 0, 1, 0x9B],
+            ..blank(SERIAL, 6)
+        };
+        let mut out = [0; 10];
+        assert_eq!(osargs.write(&mut out), Ok(10));
+        assert_eq!(out, stream);
+    }
+
+    #[test]
+    fn c11_osbyte_low_with_a_high_a() {
+        assert_eq!(last(SERIAL, &[0x9B, 0x04, 0x00, 0x80]), Read::Refused(9));
+        let low = Request {
+            a: 0x80,
+            ..blank(SERIAL, 2)
+        };
+        assert_eq!(low.write(&mut []), Err(9));
+    }
+
+    #[test]
+    fn c12_mark_inside() {
+        assert_eq!(last(SERIAL, &[0x9B, 0x04, 0x9B, 0x02]), Read::Refused(5));
+    }
+
+    #[test]
+    fn c13_osword_without_bytes() {
+        let stream = [0x9B, 0x08, 0x01, 0x00, 0x00];
+        assert_eq!(last(SERIAL, &stream), request(0, 0x08, 3));
+        let osword = Request {
+            a: 1,
+            ..blank(SERIAL, 4)
+        };
+        let mut out = [0; 5];
+        assert_eq!(osword.write(&mut out), Ok(5));
+        assert_eq!(out, stream);
+    }
+
+    #[test]
+    fn c14_code_not_carried() {
+        assert_eq!(last(SERIAL, &[0x9B, 0x18]), Read::Refused(4));
+        assert_eq!(last(PARALLEL, &[0x18]), Read::Refused(4));
+    }
+
+    #[test]
+    fn each_call_written_and_read_again() {
+        let bytes: Vec<u8> = (0..=255).collect();
+        let string: Vec<u8> = bytes.iter().copied().filter(|&byte| byte != 0x0D).collect();
+        assert_eq!(string.len(), 255);
+        let with_end = [&string[..], &[0x0D]].concat();
+        let block = &bytes[0x90..];
+        let cases: [(u8, u8, &[u8], &[u8], u8, Vec<u8>); 13] = [
+            (0, 0x00, &[], &[], 9, vec![]),
+            (1, 0x02, &[], &string, 9, with_end.clone()),
+            (2, 0x04, &[], &[], 0x7F, vec![0x9B, 0x7F]),
+            (3, 0x06, &[], &[], 0x9B, vec![0x9B, 8, 0x9B]),
+            (
+                4,
+                0x08,
+                &bytes[..255],
+                &[],
+                0x9B,
+                [&[0x9B, 255], &bytes[..255], &[0x9B]].concat(),
+            ),
+            (5, 0x0A, &block[9..14], &[], 9, block[9..14].to_vec()),
+            (
+                6,
+                0x0C,
+                &block[8..12],
+                &[],
+                9,
+                [&[8], &block[8..12], &[9]].concat(),
+            ),
+            (7, 0x0E, &[], &[], 9, vec![8]),
+            (8, 0x10, &[], &[], 0x9B, vec![8, 0x9B]),
+            (9, 0x12, &[], &[], 9, vec![0, 8]),
+            (
+                10,
+                0x12,
+                &[],
+                &string,
+                0x9B,
+                [&[0x9B], &with_end[..]].concat(),
+            ),
+            (
+                11,
+                0x14,
+                &block[..16],
+                &string,
+                0x9B,
+                [&block[..16], &with_end, &[0x9B]].concat(),
+            ),
+            (
+                12,
+                0x16,
+                &block[..13],
+                &[],
+                9,
+                [&block[..13], &[9]].concat(),
+            ),
+        ];
+        for (call, code, block, text, a, plain) in cases {
+            for (carrier, style) in [(0, 0), (0, 1), (0, 2), (0, 3), (1, 0)] {
+                let written = Request {
+                    carrier,
+                    style,
+                    call,
+                    x: 0x9B,
+                    y: 8,
+                    a,
+                    out_length: 0x9B,
+                    block,
+                    text,
+                };
+                let mut out = vec![0xDD; 600];
+                let size = written.write(&mut out).unwrap();
+                let expected_size = match carrier {
+                    SERIAL => 2 + plain.len() + escapes(&plain),
+                    _ => 1 + plain.len(),
+                };
+                assert_eq!(size, expected_size);
+                assert!(out[size..].iter().all(|&byte| byte == 0xDD));
+                assert_eq!(
+                    last(carrier, &out[..size]),
+                    request(style, code, plain.len())
+                );
+                let (_, body) = read(carrier, &out[..size]);
+                assert_eq!(body[..plain.len()], plain);
+                assert!(body[plain.len()..].iter().all(|&byte| byte == 0xEE));
+
+                let mut short = vec![0xDD; size - 1];
+                assert_eq!(written.write(&mut short), Err(8));
+                assert!(short.iter().all(|&byte| byte == 0xDD));
+                assert_eq!(written.write(&mut out[..size]), Ok(size));
+            }
+        }
+    }
+
+    #[test]
+    fn characters_between_requests() {
+        let stream = [0x41, 0x9B, 0x9B, 0x9B, 0x60, 0x0D, 0x9B, 0x2E, 0x07];
+        let (answers, _) = read(SERIAL, &stream);
+        let expected = [
+            Read::Character(0x41),
+            MORE,
+            Read::Character(0x9B),
+            MORE,
+            request(3, 0, 0),
+            Read::Character(0x0D),
+            MORE,
+            MORE,
+            request(1, 0x0E, 1),
+        ];
+        assert_eq!(answers, expected);
+    }
+
+    #[test]
+    fn every_mark_and_first_byte() {
+        for raw in 0..=255 {
+            let good = raw & 0x81 == 0 && raw & 0x1F <= 0x16;
+            let expected = match raw {
+                0x9B => Read::Character(0x9B),
+                _ if !good => Read::Refused(4),
+                _ if raw & 0x1F == 0 => request(raw >> 5, 0, 0),
+                _ => MORE,
+            };
+            assert_eq!(last(SERIAL, &[0x9B, raw]), expected);
+            let expected = match raw {
+                0 => request(0, 0, 0),
+                _ if raw <= 0x16 && raw % 2 == 0 => MORE,
+                _ => Read::Refused(4),
+            };
+            assert_eq!(last(PARALLEL, &[raw]), expected);
+        }
+    }
+
+    #[test]
+    fn long_strings() {
+        let starts: [(&[u8], &[u8]); 3] = [(&[2], &[]), (&[0x12, 1], &[]), (&[0x14], &[0x0D; 16])];
+        for (start, block) in starts {
+            let mut stream = [start, block].concat();
+            stream.extend([0x20; 255]);
+            let end = [&stream[..], &[0x0D]].concat();
+            let length = end.len() - 1;
+            if start[0] == 0x14 {
+                let whole = [&end[..], &[0x0D]].concat();
+                assert_eq!(last(PARALLEL, &whole), request(0, 0x14, BODY));
+            } else {
+                assert_eq!(last(PARALLEL, &end), request(0, start[0], length));
+            }
+            stream.push(0x20);
+            assert_eq!(last(PARALLEL, &stream), Read::Refused(6));
+        }
+        let long = Request {
+            style: 9,
+            text: &[0x0D; 256],
+            ..blank(7, 200)
+        };
+        assert_eq!(long.write(&mut []), Err(6));
+    }
+
+    #[test]
+    fn a_stopped_reader_stays() {
+        let mut reader = Reader::new(SERIAL);
+        let mut body = [0; BODY];
+        for raw in [0x9B, 0x26, 1, 2, 0x9B] {
+            assert_eq!(reader.read(raw, &mut body), MORE);
+        }
+        assert_eq!(reader.read(0x00, &mut body), Read::Refused(5));
+        let stopped = Reader {
+            carrier: SERIAL,
+            phase: STOPPED,
+            escape: true,
+            style: 1,
+            code: 6,
+            count: 2,
+        };
+        assert_eq!(reader, stopped);
+        for raw in 0..=255 {
+            assert_eq!(reader.read(raw, &mut body), Read::Refused(7));
+        }
+        assert_eq!(reader, stopped);
+    }
+
+    #[test]
+    fn records_beyond_their_limits() {
+        let stopped = |carrier: u8, phase: u8, style: u8, code: u8, count: usize| {
+            Reader {
+                carrier,
+                phase,
+                escape: false,
+                style,
+                code,
+                count,
+            }
+            .stopped()
+        };
+        for half in 1..12 {
+            let (code, longest) = (2 * half, LONGEST[half as usize]);
+            assert!(!stopped(SERIAL, INSIDE, 3, code, longest - 1));
+            assert!(stopped(SERIAL, INSIDE, 3, code, longest));
+            assert!(stopped(SERIAL, INSIDE, 4, code, 0));
+            assert!(stopped(SERIAL, INSIDE, 0, code + 1, 0));
+            assert!(!stopped(PARALLEL, INSIDE, 0, code, longest - 1));
+            assert!(stopped(PARALLEL, INSIDE, 1, code, 0));
+            assert!(stopped(2, INSIDE, 0, code, 0));
+        }
+        assert!(stopped(SERIAL, INSIDE, 0, 0x00, 0));
+        assert!(stopped(SERIAL, INSIDE, 0, 0x18, 0));
+        assert!(!stopped(SERIAL, OUTSIDE, 255, 255, usize::MAX));
+        assert!(!stopped(PARALLEL, OUTSIDE, 255, 255, usize::MAX));
+        assert!(stopped(2, OUTSIDE, 0, 0, 0));
+        assert!(stopped(SERIAL, STOPPED, 0, 0, 0));
+        assert!(stopped(SERIAL, 3, 0, 0, 0));
+    }
+}
