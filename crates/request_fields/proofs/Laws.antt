@@ -1,0 +1,70 @@
+-- What the scan of a string meets at its next byte.
+use Prim.Native.Nat.{ℕ, _+_, _-_, _≤_, _<_}
+use native.Mathlib.Numerals.{add-one}
+use native.Mathlib.Nat.{add-zero, zero-add}
+use native.Mathlib.Omega.{arith}
+use mathlib.Core.Path.{_≡_, subst}
+use mathlib.Core.Bool.{true, false, not}
+use mathlib.Core.List.{List, [], _∷_, _++_}
+use borrow.Author.Tests.{eqb-true, eq-eqb, ne-eqb, le-leb, lt-leb, not-true}
+use lib.Dec.{eqb}
+use lib.ListN.{length, take, drop, getD, length-drop, drop-of-length-le}
+use lib.Seq.{drop-cons, take-all, drop-at}
+use Rattle.serial_rules.specs.Call.{osfile, return, stringLimit, bodyOf, blockOk, hasReturn, callOk}
+use Rattle.serial_rules.specs.Fields.{fieldsOf, last}
+use Rattle.serial_rules.proofs.Finished.{Rewritten}
+use Rattle.serial_rules.proofs.Trip.{and-both, or-false}
+use Rattle.request_fields.specs.declared.Name.the-variants.{Found, Refused}
+use Rattle.request_fields.specs.Name.{stringFrom, nameOf}
+
+module _ (t : List ℕ) (i : ℕ) where
+  pub ends-here : i < length t → getD t i 0 ≡ return → stringFrom i (drop i t) ≡ Found i
+  unfolding stringFrom
+  ends-here h e = rw (drop-cons t i 0 h, eq-eqb _ _ e)
+
+  pub too-long : i < length t → (getD t i 0 ≡ return → ⊥) → stringLimit ≤ i → stringFrom i (drop i t) ≡ Refused 6
+  unfolding stringFrom
+  too-long h n l = rw (drop-cons t i 0 h, ne-eqb _ _ n, le-leb _ _ l)
+
+  pub goes-on : i < length t → (getD t i 0 ≡ return → ⊥) → i < stringLimit → stringFrom i (drop i t) ≡ stringFrom (i + 1) (drop (i + 1) t)
+  unfolding stringFrom
+  goes-on h n l = rw (drop-cons t i 0 h, ne-eqb _ _ n, lt-leb _ _ l, add-one)
+
+  pub not-ended : length t ≤ i → stringFrom i (drop i t) ≡ Refused 9
+  unfolding stringFrom
+  not-ended h = rw (drop-of-length-le t h)
+
+-- a body that ends inside the block
+pub no-name : (body : List ℕ) → length body < 16 → nameOf body ≡ Refused 9
+unfolding stringFrom
+no-name body h =
+    let short : length body ≤ 16 = omega (arith, h) in
+    rw (drop-of-length-le body short)
+
+-- the part of a body from n on is all that stands there
+pub rest : (n : ℕ) (body : List ℕ) → take (length body - n) (drop n body) ≡ drop n body
+rest n body = take-all (length body - n) (drop n body) (omega (arith, length-drop n body))
+
+-- In a whole body of OSFILE the scan finds the name: after a string without &0D and of at most 255 bytes, its &0D.
+string-found : (n : ℕ) (t rest : List ℕ) → n + length t ≤ stringLimit → hasReturn t ≡ false → stringFrom n (t ++ (return ∷ rest)) ≡ Found (n + length t)
+unfolding stringFrom hasReturn
+string-found n [] rest h clean = rw add-zero
+string-found n (x ∷ t) rest h clean =
+    let c = or-false (eqb x return) (hasReturn t) clean in
+    let less : n < stringLimit = omega (arith, h) in
+    let next : (n + 1) + length t ≤ stringLimit = omega (arith, h) in
+    let sum : (n + 1) + length t ≡ n + length (x ∷ t) = omega arith in
+    rw (c .0, lt-leb _ _ less, ← sum) (string-found (n + 1) t rest next (c .1))
+
+pub name-found : (a : ℕ) (b t : List ℕ) → callOk (osfile a) b t ≡ true → length t ≤ stringLimit → nameOf (bodyOf (osfile a) b t) ≡ Found (length t)
+unfolding bodyOf callOk
+name-found a b t ok h =
+    let p = and-both (blockOk (osfile a) (length b)) (not (hasReturn t)) ok in
+    rw (drop-at b (t ++ (return ∷ a ∷ [])) 16 (eqb-true _ _ (p .0)), ← zero-add (length t)) (string-found 0 t (a ∷ []) (omega (arith, h)) (not-true (hasReturn t) (p .1)))
+
+-- and so in every OSFILE that a reader finishes: the name found is the string of its fields
+pub finished-name : (body : List ℕ) → Rewritten 0x14 body → nameOf body ≡ Found (length (fieldsOf 0x14 body .text))
+unfolding fieldsOf
+finished-name body w =
+    let f = fieldsOf 0x14 body in
+    subst (λ (s : List ℕ). nameOf s ≡ Found (length (f .text))) (w .body-is) (name-found (last body) (f .block) (f .text) (w .ok) (w .short))
