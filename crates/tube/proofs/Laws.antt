@@ -1,7 +1,7 @@
 -- The conversions between a reader and its flat record, there and back, and what `tube_read` promises from what a step does.
 use Prim.Native.Nat.{ℕ, zero, suc}
 use native.Mathlib.Omega.{arith}
-use mathlib.Core.Path.{_≡_, refl, ap, subst, _∙_}
+use mathlib.Core.Path.{_≡_, refl, sym, ap, subst, _∙_}
 use mathlib.Core.Bool.{Bool, true, false, not}
 use mathlib.Core.List.{List}
 use borrow.Author.Tests.{leb-true, ne-eqb}
@@ -16,10 +16,10 @@ use Rattle.request_reader.specs.declared.Reader.{Reader}
 use Rattle.request_reader.specs.declared.Answer.{Answer}
 use Rattle.request_reader.specs.declared.Answer.the-variants.{More, Character, Request, Refused}
 use Rattle.request_reader.specs.declared.Stepped.{Stepped}
-use Rattle.request_reader.specs.View.{carrierOf, viewOf, answerOf, lentAfter, Step-done}
+use Rattle.request_reader.specs.View.{carrierOf, viewOf, answerOf, lentAfter, stoppedFrom, Step-done}
 use Rattle.tube.specs.declared.FlatReader.{FlatReader}
 use Rattle.tube.specs.declared.FlatRead.{FlatRead}
-use Rattle.tube.specs.Flat.{carrierAt, phaseAt, carrierNumber, phaseNumber, escapeNumber, readerOf, tagsOk, flatView, flatAnswer, flatOf, flatRead, Flat-done}
+use Rattle.tube.specs.Flat.{carrierAt, phaseAt, carrierNumber, phaseNumber, escapeNumber, readerOf, tagsOk, flatView, flatAnswer, flatOf, flatRead, flatStopped, Flat-done}
 
 not-zero : (e : ℕ) → eqb (suc e) 0 ≡ false
 not-zero e = ne-eqb (suc e) 0 (λ h. omega (arith, h))
@@ -90,6 +90,17 @@ reader-is f (Character b) = refl
 reader-is f (Request style code n) = refl
 reader-is f (Refused n) = refl
 
+-- a flat result that is a refusal is one of the answer
+refusal-is : (f : FlatReader) (a : Answer) → flatRead f a .kind ≡ 3 → a ≡ Refused (flatRead f a .value)
+refusal-is f More e = absurd (omega (arith, e))
+refusal-is f (Character b) e = absurd (omega (arith, e))
+refusal-is f (Request style code n) e = absurd (omega (arith, e))
+refusal-is f (Refused n) e = refl
+
+flat-stopped : (f : FlatReader) → tagsOk f ≡ true → flatOf (f .escape) (stoppedFrom (readerOf f)) ≡ flatStopped f
+unfolding tagsOk
+flat-stopped f ok = rw (carrier-same (f .carrier) (and-both (leb (f .carrier) 1) (leb (f .phase) 2) ok .0), escape-same (f .escape))
+
 -- a record with its tags in range is stepped
 stepped-as : (f : FlatReader) (lent : List ℕ) (raw : ℕ) {r : Stepped} {left : List ℕ} → tagsOk f ≡ true → Step-done (readerOf f) lent raw r left
     → Flat-done f lent raw (flatRead (flatOf (f .escape) (r .reader)) (r .answer)) left
@@ -102,6 +113,7 @@ stepped-as f lent raw {r} {left} ok d =
       next = ap (λ (x : FlatReader). flatView x left) (reader-is g (r .answer)) ∙ flat-view (f .escape) (r .reader) left ∙ d .next ∙ ap (λ (q : rules.Reader). rules.step c q raw .next) v;
       bytes = d .bytes ∙ ap (λ (q : rules.Reader). lentAfter c q raw lent) v;
       kept = λ h. reader-is g (r .answer) ∙ ap (flatOf (f .escape)) (d .kept (v ∙ h)) ∙ flat-back f ok;
+      stops = λ h e. reader-is g (r .answer) ∙ ap (flatOf (f .escape)) (d .stops _ (λ s. h (sym v ∙ s)) (refusal-is g (r .answer) e)) ∙ flat-stopped f ok;
     }
 
 pub stepped : {f g : FlatReader} {p : Reader} {lent left : List ℕ} {raw : ℕ} {r : Stepped} {o : FlatRead} → tagsOk f ≡ true → p ≡ readerOf f → Step-done p lent raw r left
@@ -113,4 +125,4 @@ stepped {f} {g} {p} {lent} {left} {raw} {r} {o} ok u d k e =
 -- one with a tag out of range is refused
 pub out-of-range : {f : FlatReader} {lent : List ℕ} {raw : ℕ} {o : FlatRead} → tagsOk f ≡ false → o ≡ flatRead f (Refused 7) → Flat-done f lent raw o lent
 unfolding rules.step lentAfter
-out-of-range out e = rw e (record { answer = rw out; next = rw out; bytes = rw out; kept = λ h. refl })
+out-of-range out e = rw e (record { answer = rw out; next = rw out; bytes = rw out; kept = λ h. refl; stops = λ h e. absurd (h (rw out)) })

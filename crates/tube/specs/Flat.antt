@@ -58,12 +58,17 @@ flatAnswer r lent =
 abbrev pub flatFresh : ℕ → FlatReader
 flatFresh carrier = record { count = 0; carrier = carrier; phase = 0; escape = 0; style = 0; code = 0 }
 
+abbrev pub flatStopped : FlatReader → FlatReader
+flatStopped f = record { count = f .count; carrier = f .carrier; phase = 2; escape = f .escape; style = f .style; code = f .code }
+
 -- What `tube_read` promises of the flat reader, the lent body before and after, the raw byte and the result.
 pub record Flat-done (f : FlatReader) (lent : List ℕ) (raw : ℕ) (r : FlatRead) (left : List ℕ) : Type 0 where
   pub answer : flatAnswer r left ≡ rules.step (carrierOf (carrierAt (f .carrier))) (flatView f lent) raw .answer
   pub next : flatView (r .reader) left ≡ rules.step (carrierOf (carrierAt (f .carrier))) (flatView f lent) raw .next
   pub bytes : left ≡ lentAfter (carrierOf (carrierAt (f .carrier))) (flatView f lent) raw lent
+  -- a stopped reader is unchanged; any other refusal leaves the record given, stopped
   pub kept : flatView f lent ≡ rules.stopped → r .reader ≡ f
+  pub stops : (flatView f lent ≡ rules.stopped → ⊥) → r .kind ≡ 3 → r .reader ≡ flatStopped f
 
 -- The flat record of a reader. The number of a seen escape stays where it stands for the same, so that a reader unchanged is a record unchanged.
 abbrev pub escapeNumber : ℕ → Bool → ℕ
