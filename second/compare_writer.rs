@@ -619,9 +619,11 @@ fn compare_request(
             )
         });
     }
-    // Any length below the size.
-    let lent = random.below(size);
-    compare_buffer(random, &request, lent, name, seen, report);
+    // Every length around the size, and any one below it.
+    let around = size.saturating_sub(6)..=size + 6;
+    for lent in around.chain([random.below(size)]) {
+        compare_buffer(random, &request, lent, name, seen, report);
+    }
 }
 
 /// One buffer; true where all is equal.
