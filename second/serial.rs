@@ -1,7 +1,7 @@
 //! A second program for the requests of the serial protocol: the escape layer,
 //! the stepwise reader and the writer, on the serial and the parallel carrier.
-//! It is written from the rules alone and shares nothing with the proved
-//! library.
+//! It is written from the rules and shares nothing with the proved library; one
+//! reading was settled after a comparison with it (see `Reader::read`).
 
 // Carriers.
 pub const SERIAL: u8 = 0;
@@ -122,7 +122,8 @@ impl Reader {
         if self.stopped() {
             return Read::Refused(READER_STOPPED);
         }
-        // The parallel carrier has no escapes: a byte taken leaves none.
+        // The parallel carrier has no escapes: a byte taken leaves none (the rules
+        // of the proofs; the protocol is silent).
         if self.carrier == PARALLEL {
             return match self.phase {
                 INSIDE => self.take(raw, body),
