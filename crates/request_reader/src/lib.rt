@@ -53,9 +53,6 @@ impl Reader {
     // The longest body of a request, OSFILE's: 16 bytes, a string of 255, its return, A.
     pub const LONGEST_BODY: usize = 273;
 
-    // The longest string.
-    pub const STRING_LIMIT: usize = 255;
-
     pub fn new(carrier: Carrier) -> Reader
         ensures { λ r. ⌜ r ≡ fresh carrier ⌝ }
     {

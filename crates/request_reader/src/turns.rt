@@ -1,5 +1,6 @@
 // One data byte b of a request's body, against the bytes s, or n bytes, before it.
 use crate::Reader;
+use strings::Text;
 ghost use mathlib.Core.Path.{_≡_};
 ghost use Rattle.serial_rules.specs.Body.{stringTurn, fixedTurn, checkedTurn, wordTurn, findTurn, nameTurn, ended, fileTurn, bodyTurn, longestBody};
 ghost use Rattle.request_reader.specs.Parts.{turnOf};
@@ -11,17 +12,14 @@ pub enum Turn {
     Refused(u8),
 }
 
-// What ends a string.
-const RETURN: u8 = 0x0D;
-
 // A byte of a string that ends the body.
 fn string_turn(n: usize, b: u8) -> Turn
     ensures { λ r. ⌜ turnOf r ≡ stringTurn n b ⌝ }
 {
-    if b == RETURN {
+    if b == Text::RETURN {
         return Turn::Done;
     }
-    if n < Reader::STRING_LIMIT {
+    if n < Text::LIMIT {
         return Turn::More;
     }
     Turn::Refused(6)
@@ -86,13 +84,13 @@ fn find_turn(s: &[u8], b: u8) -> Turn
 fn name_turn(n: usize, b: u8) -> Turn
     ensures { λ r. ⌜ turnOf r ≡ nameTurn n b ⌝ }
 {
-    if b == RETURN {
-        if n <= Reader::STRING_LIMIT {
+    if b == Text::RETURN {
+        if n <= Text::LIMIT {
             return Turn::More;
         }
         return Turn::Refused(6);
     }
-    if n < Reader::STRING_LIMIT {
+    if n < Text::LIMIT {
         return Turn::More;
     }
     Turn::Refused(6)
@@ -106,7 +104,7 @@ fn name_ended(s: &[u8]) -> bool
     if n == 0 {
         return false;
     }
-    s[n - 1] == RETURN
+    s[n - 1] == Text::RETURN
 }
 
 // OSFILE: 16 bytes, a string, A.

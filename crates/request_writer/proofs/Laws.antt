@@ -6,11 +6,9 @@ use mathlib.Core.Path.{_≡_, refl, sym, ap, _∙_}
 use mathlib.Core.Bool.{Bool, true, false}
 use mathlib.Core.List.{List, [], _∷_, _++_, append-assoc}
 use borrow.Author.Needs.{needs}
-use borrow.Author.Tests.{eq-eqb, ne-eqb}
 use lib.ListN.{length, take, drop, getD, set, length-append, drop-of-length-le}
 use lib.Seq.{drop-cons, take-suc, set-at}
 use Rattle.serial_rules.specs.Escape.{escape, escaped, escapes}
-use Rattle.serial_rules.specs.Call.{return, hasReturn}
 use Rattle.serial_rules.proofs.Escape.{escaped-append}
 use Rattle.escape.specs.Put.{over, Put}
 use Rattle.escape.proofs.Laws.{put-as, put-tail, tail-room, set-one, set-two}
@@ -53,20 +51,6 @@ put-pair flag x y a b = put-as (sym (coded-append flag x y)) (put-tail a b)
 
 -- what a writer of two fields needs
 pub ruleset fields = (first-room, second-room, put-pair, needs)
-
--- The first &0D of a string is at i or later.
-module _ (t : List ℕ) (i : ℕ) where
-  pub return-here : i < length t → getD t i 0 ≡ return → hasReturn (drop i t) ≡ true
-  unfolding hasReturn
-  return-here h e = rw (drop-cons t i 0 h, eq-eqb _ _ e)
-
-  pub return-later : i < length t → (getD t i 0 ≡ return → ⊥) → hasReturn (drop i t) ≡ hasReturn (drop (i + 1) t)
-  unfolding hasReturn
-  return-later h n = rw (add-one, drop-cons t i 0 h, ne-eqb _ _ n)
-
-  pub return-nowhere : length t ≤ i → hasReturn (drop i t) ≡ false
-  unfolding hasReturn
-  return-nowhere h = rw (drop-of-length-le t h)
 
 -- The escape bytes from i on.
 module _ (l : List ℕ) (i : ℕ) where

@@ -5,11 +5,12 @@ ghost use mathlib.Core.Bool.{_&&_, _||_};
 ghost use mathlib.Core.List.{_++_};
 ghost use lib.ListN.{length};
 ghost use Rattle.serial_rules.specs.Escape.{escaped, escapes};
-ghost use Rattle.serial_rules.specs.Call.{serial, parallel, codeOf, bodyOf, blockOk, hasString, numbersOk, hasReturn, callOk, heading, styleOk, encodingOf};
+ghost use Rattle.serial_rules.specs.Call.{serial, parallel, codeOf, bodyOf, blockOk, hasString, numbersOk, callOk, heading, styleOk, encodingOf};
 ghost use Rattle.escape.specs.Put.{Put};
 ghost use Rattle.request_writer.specs.Calls.{callOf};
 ghost use Rattle.request_writer.specs.Carriers.{carrierOf, coded, isEscape, headingLength};
 ghost use Rattle.request_writer.specs.Promise.{Request-done};
+use strings::Text;
 
 // A call with its numbers; its block and its string are given beside it.
 pub enum Call {
@@ -36,13 +37,6 @@ pub enum Written {
     NoRoom,
 }
 
-impl Call {
-    // The longest string.
-    pub const STRING_LIMIT: usize = 255;
-    // The byte that ends a string.
-    const RETURN: u8 = 0x0D;
-}
-
 // Writes a request for the serial lead into the start of `out`; a refused one has touched no byte.
 pub fn write_serial(style: u8, call: Call, block: &[u8], text: &[u8], out: &mut [u8]) -> Written
     ensures { λ r. ⌜ Request-done serial style call (now (block .entry)) (now (text .entry)) (now (out .entry)) r (now (out .exit)) ⌝ }
@@ -61,7 +55,7 @@ pub fn write_parallel(style: u8, call: Call, block: &[u8], text: &[u8], out: &mu
 fn write(serial: bool, style: u8, call: Call, block: &[u8], text: &[u8], out: &mut [u8]) -> Written
     ensures { λ r. ⌜ Request-done (carrierOf serial) style call (now (block .entry)) (now (text .entry)) (now (out .entry)) r (now (out .exit)) ⌝ }
 {
-    if Call::STRING_LIMIT < text.len() {
+    if Text::LIMIT < text.len() {
         return Written::TooLong;
     }
     if !fields_ok(serial, style, call, block, text) {
@@ -78,7 +72,7 @@ fn write(serial: bool, style: u8, call: Call, block: &[u8], text: &[u8], out: &m
 fn fields_ok(serial: bool, style: u8, call: Call, block: &[u8], text: &[u8]) -> bool
     ensures { λ r. ⌜ r ≡ (styleOk (carrierOf serial) style && callOk (callOf call) (now (block .entry)) (now (text .entry))) ⌝ }
 {
-    let clean = !has_return(text);
+    let clean = !strings::has_return(text);
     let string_ok = both(either(has_string(call), text.len() == 0), clean);
     let given_ok = both(block_ok(call, block.len()), string_ok);
     both(style_ok(serial, style), both(numbers_ok(call), given_ok))
@@ -176,20 +170,6 @@ fn has_string(call: Call) -> bool
     }
 }
 
-// Whether a string holds the byte that would end it.
-fn has_return(text: &[u8]) -> bool
-    ensures { λ r. ⌜ r ≡ hasReturn (now (text .entry)) ⌝ }
-{
-    let mut i: usize = 0;
-    while i < text.len() {
-        if text[i] == Call::RETURN {
-            return true;
-        }
-        i += 1;
-    }
-    false
-}
-
 // How many bytes stand before the body.
 fn heading_length(serial: bool) -> usize
     ensures { λ r. ⌜ (r ≡ headingLength serial) × (r ≤ 2) ⌝ }
@@ -205,7 +185,7 @@ fn body_length(serial: bool, call: Call, block: &[u8], text: &[u8]) -> usize
 {
     match call {
         Call::Osrdch => 0,
-        Call::Oscli => two_length(serial, text, &[Call::RETURN]),
+        Call::Oscli => two_length(serial, text, &[Text::RETURN]),
         Call::OsbyteLow { x, a } => data_length(serial, &[x, a]),
         Call::OsbyteHigh { x, y, a } => data_length(serial, &[x, y, a]),
         Call::Osword { a, out_length } => three_length(
@@ -219,8 +199,8 @@ fn body_length(serial: bool, call: Call, block: &[u8], text: &[u8]) -> usize
         Call::Osbget { y } => data_length(serial, &[y]),
         Call::Osbput { y, a } => data_length(serial, &[y, a]),
         Call::OsfindClose { y } => data_length(serial, &[0, y]),
-        Call::OsfindOpen { a } => three_length(serial, &[a], text, &[Call::RETURN]),
-        Call::Osfile { a } => three_length(serial, block, text, &[Call::RETURN, a]),
+        Call::OsfindOpen { a } => three_length(serial, &[a], text, &[Text::RETURN]),
+        Call::Osfile { a } => three_length(serial, block, text, &[Text::RETURN, a]),
         Call::Osgbpb { a } => two_length(serial, block, &[a]),
     }
 }
@@ -339,7 +319,7 @@ fn put_body(serial: bool, call: Call, block: &[u8], text: &[u8], out: &mut [u8])
 {
     match call {
         Call::Osrdch => 0,
-        Call::Oscli => put_two(serial, text, &[Call::RETURN], out),
+        Call::Oscli => put_two(serial, text, &[Text::RETURN], out),
         Call::OsbyteLow { x, a } => put_data(serial, &[x, a], out),
         Call::OsbyteHigh { x, y, a } => put_data(serial, &[x, y, a], out),
         Call::Osword { a, out_length } => put_three(
@@ -354,8 +334,8 @@ fn put_body(serial: bool, call: Call, block: &[u8], text: &[u8], out: &mut [u8])
         Call::Osbget { y } => put_data(serial, &[y], out),
         Call::Osbput { y, a } => put_data(serial, &[y, a], out),
         Call::OsfindClose { y } => put_data(serial, &[0, y], out),
-        Call::OsfindOpen { a } => put_three(serial, &[a], text, &[Call::RETURN], out),
-        Call::Osfile { a } => put_three(serial, block, text, &[Call::RETURN, a], out),
+        Call::OsfindOpen { a } => put_three(serial, &[a], text, &[Text::RETURN], out),
+        Call::Osfile { a } => put_three(serial, block, text, &[Text::RETURN, a], out),
         Call::Osgbpb { a } => put_two(serial, block, &[a], out),
     }
 }

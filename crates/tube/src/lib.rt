@@ -14,6 +14,7 @@ use request_reader::Reader;
 use request_writer::Call;
 use request_writer::Written;
 use script::Played;
+use strings::Text;
 
 // Plays a script: see `script::play`.
 #[no_mangle]
@@ -239,7 +240,7 @@ pub extern "C" fn tube_write_request(
         let given = call_at(call, x, y, a, out_length);
         return flat_written(write_on(carrier, style, given, block, text, out));
     }
-    if Call::STRING_LIMIT < text.len() {
+    if Text::LIMIT < text.len() {
         return flat_written(Written::TooLong);
     }
     flat_written(Written::BadField)

@@ -4,10 +4,10 @@ use Prim.Native.Nat.{_-_, _≤_}
 use mathlib.Core.Path.{_≡_, sym, _∙_}
 use denote.Ref.{now}
 use lib.ListN.{length, drop}
-use Rattle.request_fields.specs.Name.{stringFrom}
-use Rattle.request_fields.proofs.Laws.{ends-here, too-long, goes-on, not-ended}
-use Rattle.request_fields.proofs.string_length.Statement.{statement}
-use Rattle.request_fields.proofs.string_length.Tie as tie
+use Rattle.strings.specs.Text.{stringFrom}
+use Rattle.strings.proofs.Laws.{ends-here, too-long, goes-on, not-ended}
+use Rattle.strings.proofs.string_length.Statement.{statement}
+use Rattle.strings.proofs.string_length.Tie as tie
 
 abbrev Inv-loop : tie.InvT-loop
 Inv-loop tail i₀ i = (i ≤ length tail) × (stringFrom 0 tail ≡ stringFrom i (drop i tail))

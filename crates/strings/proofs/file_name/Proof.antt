@@ -1,11 +1,11 @@
 -- A body that ends inside the block has no name; else the scan gets the part behind it.
 use mathlib.Core.Path.{sym, ap, _∙_}
 use denote.Ref.{now}
-use Rattle.request_fields.proofs.Laws.{no-name, rest}
-use Rattle.request_fields.specs.Name.{stringFrom}
+use Rattle.strings.proofs.Laws.{no-name, rest}
+use Rattle.strings.specs.Text.{stringFrom}
 use borrow.Author.Needs.{needs}
-use Rattle.request_fields.proofs.file_name.Statement.{statement}
-use Rattle.request_fields.proofs.file_name.Tie as tie
+use Rattle.strings.proofs.file_name.Statement.{statement}
+use Rattle.strings.proofs.file_name.Tie as tie
 
 returns : tie.Need-returns
 returns c = sym (no-name (now (c .before .before .args .body)) (c .if1 .taken))

@@ -1,4 +1,4 @@
--- What the scan of a string meets at its next byte.
+-- What the two scans of a string meet at their next byte, and that the name is found.
 use Prim.Native.Nat.{ℕ, _+_, _-_, _≤_, _<_}
 use native.Mathlib.Numerals.{add-one}
 use native.Mathlib.Nat.{add-zero, zero-add}
@@ -14,8 +14,8 @@ use Rattle.serial_rules.specs.Call.{osfile, return, stringLimit, bodyOf, blockO
 use Rattle.serial_rules.specs.Fields.{fieldsOf, last}
 use Rattle.serial_rules.proofs.Finished.{Rewritten}
 use Rattle.serial_rules.proofs.Trip.{and-both, or-false}
-use Rattle.request_fields.specs.declared.Name.the-variants.{Found, Refused}
-use Rattle.request_fields.specs.Name.{stringFrom, nameOf}
+use Rattle.strings.specs.declared.Text.the-variants.{Found, Refused}
+use Rattle.strings.specs.Text.{stringFrom, nameOf}
 
 module _ (t : List ℕ) (i : ℕ) where
   pub ends-here : i < length t → getD t i 0 ≡ return → stringFrom i (drop i t) ≡ Found i
@@ -33,6 +33,20 @@ module _ (t : List ℕ) (i : ℕ) where
   pub not-ended : length t ≤ i → stringFrom i (drop i t) ≡ Refused 9
   unfolding stringFrom
   not-ended h = rw (drop-of-length-le t h)
+
+-- The first &0D of a string is at i or later.
+module _ (t : List ℕ) (i : ℕ) where
+  pub return-here : i < length t → getD t i 0 ≡ return → hasReturn (drop i t) ≡ true
+  unfolding hasReturn
+  return-here h e = rw (drop-cons t i 0 h, eq-eqb _ _ e)
+
+  pub return-later : i < length t → (getD t i 0 ≡ return → ⊥) → hasReturn (drop i t) ≡ hasReturn (drop (i + 1) t)
+  unfolding hasReturn
+  return-later h n = rw (add-one, drop-cons t i 0 h, ne-eqb _ _ n)
+
+  pub return-nowhere : length t ≤ i → hasReturn (drop i t) ≡ false
+  unfolding hasReturn
+  return-nowhere h = rw (drop-of-length-le t h)
 
 -- a body that ends inside the block
 pub no-name : (body : List ℕ) → length body < 16 → nameOf body ≡ Refused 9

@@ -5,9 +5,9 @@ use mathlib.Core.Path.{_≡_, sym, _∙_}
 use denote.Ref.{now}
 use lib.ListN.{length, drop}
 use Rattle.serial_rules.specs.Call.{hasReturn}
-use Rattle.request_writer.proofs.Laws.{return-here, return-later, return-nowhere}
-use Rattle.request_writer.proofs.has_return.Statement.{statement}
-use Rattle.request_writer.proofs.has_return.Tie as tie
+use Rattle.strings.proofs.Laws.{return-here, return-later, return-nowhere}
+use Rattle.strings.proofs.has_return.Statement.{statement}
+use Rattle.strings.proofs.has_return.Tie as tie
 
 abbrev Inv-loop : tie.InvT-loop
 Inv-loop text i₀ i = (i ≤ length text) × (hasReturn text ≡ hasReturn (drop i text))
