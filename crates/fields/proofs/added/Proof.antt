@@ -1,0 +1,12 @@
+-- The flag tells the carrier, and only the serial lead adds bytes.
+use borrow.Author.Needs.{needs}
+use Rattle.fields.proofs.added.Statement.{statement}
+use Rattle.fields.proofs.added.Tie as tie
+
+pub added-spec : {M : Type 1} → statement M
+added-spec =
+    tie.close
+    (tie.spec
+    (λ c κs. search needs)
+    (λ c. simp (c .before .if1 .taken, c .count-escapes .ensures))
+    (λ c. search needs))

@@ -1,0 +1,43 @@
+-- Turn i has counted the escape bytes among the first i; with those from i on they are all.
+use borrow.Author.Needs.{needs}
+use native.Mathlib.Omega.{arith}
+use Prim.Native.Nat.{_+_, _-_, _≤_}
+use mathlib.Core.Path.{_≡_}
+use denote.Ref.{now}
+use lib.ListN.{length, drop}
+use Rattle.serial_rules.specs.Escape.{escapes}
+use Rattle.fields.proofs.Laws.{escapes-more, escapes-none}
+use Rattle.fields.proofs.count_escapes.Statement.{statement}
+use Rattle.fields.proofs.count_escapes.Tie as tie
+
+abbrev Inv-loop : tie.InvT-loop
+Inv-loop bytes n₀ i₀ n i = (i ≤ length bytes) × (n ≤ i) × (n + escapes (drop i bytes) ≡ escapes bytes)
+
+abbrev μ-loop : tie.MeasureT-loop
+μ-loop bytes n₀ i₀ n i = length bytes - i
+
+loop-again : tie.Need-loop-again Inv-loop μ-loop
+loop-again c =
+    let l = c .before .before in
+    let e = escapes-more (now (l .before .before .before .args .bytes)) (l .before .loop .i) (l .loop-test .taken) in
+    (search needs, search needs, omega (arith, c .is-escape .ensures .0, l .before .loop .inv .2))
+
+returns : tie.Need-returns Inv-loop μ-loop
+returns c =
+    let e = escapes-none (now (c .before .before .before .args .bytes)) (c .before .loop .i) (c .loop-test .left) in
+    omega (arith, c .before .loop .inv .2)
+
+pub count-escapes-spec : {M : Type 1} → statement M
+count-escapes-spec =
+    tie.close
+    (tie.spec
+    Inv-loop
+    μ-loop
+    (λ c. search needs)
+    (λ c. search needs)
+    (λ c κs. search needs)
+    (λ c. search needs)
+    (λ c. search needs)
+    (λ c. search needs)
+    loop-again
+    returns)
