@@ -5,7 +5,7 @@ use Rattle.chip_rules.specs.Cases as chip
 use Rattle.chip_rules.proofs.Cases as chip-proofs
 use Rattle.serial_rules.specs.Cases as serial
 use Rattle.serial_rules.proofs.Cases as serial-proofs
-use Rattle.cases.specs.Table.{Case, chip-case, request-case, worked, table}
+use Rattle.cases.specs.Table.{Case, chip-case, request-case, reply-case, worked, table}
 
 -- the cases of one crate, worked before or after they are joined
 part : {K : Type 0} (f : K → K) (c : K → Case) → ((k : K) → worked (c k) ≡ c (f k)) → (l : List K) → map worked (map c l) ≡ map c (map f l)
@@ -24,10 +24,19 @@ request-worked : (k : serial.Case) → worked (request-case k) ≡ request-case 
 unfolding worked
 request-worked k = refl
 
+reply-worked : (k : serial.ReplyCase) → worked (reply-case k) ≡ reply-case (serial.replyWorked k)
+unfolding worked
+reply-worked k = refl
+
 pub every-case : map worked table ≡ table
 unfolding table
 every-case =
-    map-append (map chip-case chip.cases) (map request-case serial.cases)
+    let requests = map request-case serial.cases in
+    let replies = map reply-case serial.replyCases in
+    map-append (map chip-case chip.cases) (requests ++ replies)
     ∙ ap₂ (λ (x y : List Case). x ++ y)
     (part chip.worked chip-case chip-worked chip.cases ∙ ap (map chip-case) chip-proofs.every-case)
+    (map-append requests replies
+    ∙ ap₂ (λ (x y : List Case). x ++ y)
     (part serial.worked request-case request-worked serial.cases ∙ ap (map request-case) serial-proofs.every-case)
+    (part serial.replyWorked reply-case reply-worked serial.replyCases ∙ ap (map reply-case) serial-proofs.every-reply))

@@ -7,10 +7,12 @@ use native.Mathlib.Omega.{arith}
 use lib.Dec.{eqb}
 use lib.ListN.{length, take, length-append}
 use lib.Seq.{take-at, drop-at, getD-at}
-use borrow.Author.Tests.{eqb-true}
+use borrow.Author.Tests.{eqb-true, not-true}
 use Rattle.serial_rules.specs.Call.{Call, osrdch, oscli, osbyteLow, osbyteHigh, osword, osword0, osargs, osbget, osbput, osfindClose, osfindOpen, osfile, osgbpb, codeOf, bodyOf, return, numbersOk, blockOk, hasString, hasReturn, callOk}
 use Rattle.serial_rules.specs.Fields.{fields, last, fieldsOf}
-use Rattle.serial_rules.proofs.Trip.{and-both, not-true}
+use Rattle.serial_rules.specs.Reply as reply
+use Rattle.serial_rules.specs.Reply.{kindOf, kindIn}
+use Rattle.serial_rules.proofs.Trip.{and-both}
 
 -- a call without a block or a string has an empty one beside it
 none : (l : List ℕ) → eqb (length l) 0 ≡ true → l ≡ []
@@ -78,3 +80,20 @@ fields-back (osgbpb a) b t h =
     let p = parts (osgbpb a) b t h in
     let thirteen = eqb-true (length b) 13 (p .block) in
     rw (getD-at b a [] 0 13 thirteen, take-at b (a ∷ []) 13 thirteen, none t (p .text))
+
+-- the kind of a request that was written comes out of its code and body
+pub kind-back : (call : Call) (b t : List ℕ) → callOk call b t ≡ true → kindIn (codeOf call) (bodyOf call b t) ≡ kindOf call
+unfolding codeOf bodyOf kindIn
+kind-back osrdch b t h = refl
+kind-back oscli b t h = refl
+kind-back (osbyteLow x a) b t h = refl
+kind-back (osbyteHigh x y a) b t h = refl
+kind-back (osword a out) b t h = ap reply.osword (last-is (a ∷ length b ∷ b) out)
+kind-back osword0 b t h = refl
+kind-back (osargs y a) b t h = refl
+kind-back (osbget y) b t h = refl
+kind-back (osbput y a) b t h = refl
+kind-back (osfindClose y) b t h = refl
+kind-back (osfindOpen a) b t h = let p = parts (osfindOpen a) b t h in rw (not-true (eqb a 0) (p .numbers))
+kind-back (osfile a) b t h = refl
+kind-back (osgbpb a) b t h = refl

@@ -5,3 +5,9 @@ pub mod Trip
 pub mod Fields
 pub mod Finished
 pub mod Standing
+pub mod Session
+pub mod Ends
+pub mod Parts
+pub mod Actions
+pub mod Replies
+pub mod Normal

@@ -7,7 +7,7 @@ use mathlib.Core.List.{List, [], _∷_, _++_}
 use native.Mathlib.Omega.{arith}
 use lib.Dec.{leb, eqb}
 use lib.ListN.{getD}
-use borrow.Author.Tests.{eqb-false, leb-true, le-leb, eq-eqb}
+use borrow.Author.Tests.{eqb-false, leb-true, le-leb, eq-eqb, not-true}
 use Rattle.serial_rules.specs.Escape.{escape, Piece, pending, dataByte, mark, pieceOf}
 use Rattle.serial_rules.specs.Marks.{bit, isCode, styleOf, codeIn, startsRequest}
 use Rattle.serial_rules.specs.Call.{codeOf, bodyOf, hasReturn, callOk, Carrier, serial, parallel, styleOk, encodingOf}
@@ -16,7 +16,7 @@ use Rattle.serial_rules.specs.Fields.{fieldsOf}
 use Rattle.serial_rules.specs.Reader.{Reader, stopped, outside, inside, Answer, needMore, character, request, refusal, Step, gives, pieceOutside, pieceInside, starts, begun, outsideStep, turned, insideStep, step}
 use Rattle.serial_rules.specs.Stream.{readerAfter, rawOf}
 use Rattle.serial_rules.proofs.Stream.{right-of}
-use Rattle.serial_rules.proofs.Trip.{Goes, goes-append, All, all-snoc, and-both, not-true}
+use Rattle.serial_rules.proofs.Trip.{Goes, goes-append, All, all-snoc, and-both}
 use Rattle.serial_rules.proofs.Finished.{Rewritten, rewritten}
 
 abbrev Byte : ℕ → Type 0

@@ -8,7 +8,7 @@ use native.Mathlib.Omega.{arith}
 use lib.Dec.{leb, eqb}
 use lib.ListN.{length, drop, length-append}
 use lib.Seq.{drop-at}
-use borrow.Author.Tests.{ne-eqb, le-ltb, lt-ltb, le-leb, eqb-true, leb-true}
+use borrow.Author.Tests.{ne-eqb, le-ltb, lt-ltb, le-leb, eqb-true, leb-true, not-true}
 use Rattle.serial_rules.specs.Escape.{escape}
 use Rattle.serial_rules.specs.Marks.{bit, isCode, startsRequest}
 use Rattle.serial_rules.specs.Call.{Call, osrdch, oscli, osbyteLow, osbyteHigh, osword, osword0, osargs, osbget, osbput, osfindClose, osfindOpen, osfile, osgbpb, codeOf, bodyOf, return, hasReturn, numbersOk, blockOk, hasString, callOk, Carrier, serial, parallel, carried, heading, styleOk, encodingOf}
@@ -262,10 +262,6 @@ record Facts (call : Call) (b t : List ℕ) : Type 0 where
 pub and-both : (a b : Bool) → a && b ≡ true → (a ≡ true) × (b ≡ true)
 and-both true b h = (refl, h)
 and-both false b h = absurd (true≢false (sym h))
-
-pub not-true : (a : Bool) → not a ≡ true → a ≡ false
-not-true true h = absurd (true≢false (sym h))
-not-true false h = refl
 
 facts : (call : Call) (b t : List ℕ) → callOk call b t ≡ true → Facts call b t
 unfolding callOk

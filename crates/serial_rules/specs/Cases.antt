@@ -1,10 +1,15 @@
--- The worked cases (document 01: bench cases) of requests: C9, C11, C12, C13's request and C14. Raw bytes, and what they give first.
+-- The worked cases (document 01: bench cases) of requests and replies: C9 to C15. For a request, raw bytes and what they give first.
 use Prim.Native.Nat.{ℕ}
-use mathlib.Core.Bool.{false}
-use mathlib.Core.List.{List, [], _∷_}
+use mathlib.Core.Bool.{true, false}
+use mathlib.Core.List.{List, [], _∷_, map}
 use Rattle.serial_rules.specs.Call.{serial}
 use Rattle.serial_rules.specs.Reader.{stopped, outside, request, refusal}
 use Rattle.serial_rules.specs.Stream.{Fed, gave, feed}
+use Rattle.serial_rules.specs.Reply.{Kind, osbget, kindIn, carryA, block, aBlock, Given, given, replyRead}
+use Rattle.serial_rules.specs.Link as link
+use Rattle.serial_rules.specs.Link.{Report}
+use Rattle.serial_rules.specs.Session as session
+use Rattle.serial_rules.specs.Session.{Told}
 
 pub record Case : Type 0 where
   pub raw : List ℕ
@@ -40,3 +45,77 @@ c14 = record { raw = 0x9B ∷ 0x18 ∷ []; fed = gave (refusal 4) stopped [] }
 
 unfoldable pub cases : List Case
 cases = c9 ∷ c11 ∷ c12 ∷ c13 ∷ c14 ∷ []
+
+-- The worked cases of replies: a call of a kind is begun on a fresh link, and raw bytes follow. What is told, but for need-more; the bytes
+-- of the reply, and what they mean.
+pub record ReplyCase : Type 0 where
+  pub kind : Kind
+  pub raw : List ℕ
+  pub told : List Told
+  pub bytes : List ℕ
+  pub reply : Given
+
+-- what is told, but for need-more
+abbrev pub heardWith : Report → List Told → List Told
+heardWith link.needMore l = l
+heardWith (link.character b) l = session.report (link.character b) ∷ l
+heardWith (link.reply s) l = session.report (link.reply s) ∷ l
+heardWith (link.escapeState on) l = session.report (link.escapeState on) ∷ l
+heardWith (link.event y x a) l = session.report (link.event y x a) ∷ l
+heardWith (link.address b3 b2 b1 b0) l = session.report (link.address b3 b2 b1 b0) ∷ l
+heardWith (link.error n t) l = session.report (link.error n t) ∷ l
+heardWith link.restart l = session.report link.restart ∷ l
+heardWith (link.refusal n) l = session.report (link.refusal n) ∷ l
+
+abbrev pub heard : List Told → List Told
+heard [] = []
+heard (session.report r ∷ l) = heardWith r (heard l)
+heard (session.answer a ∷ l) = session.answer a ∷ heard l
+
+unfoldable pub replyWorked : ReplyCase → ReplyCase
+replyWorked k =
+    record {
+      kind = k .kind;
+      raw = k .raw;
+      told = heard (session.tells link.fresh (session.call (k .kind) ∷ map session.raw (k .raw)));
+      reply = replyRead (k .kind) (k .bytes);
+      bytes = k .bytes;
+    }
+
+-- C10 "its reply `01 00 00 01 9B 9B`": the reply to C9's OSARGS is A=1, block &0000019B.
+abbrev pub c10 : ReplyCase
+c10 =
+    let s : List ℕ = 0x01 ∷ 0x00 ∷ 0x00 ∷ 0x01 ∷ 0x9B ∷ [] in
+    record {
+      kind = kindIn 0x0C (0x9B ∷ 0x00 ∷ 0x00 ∷ 0x01 ∷ 0x9B ∷ 0x01 ∷ []);
+      raw = 0x01 ∷ 0x00 ∷ 0x00 ∷ 0x01 ∷ 0x9B ∷ 0x9B ∷ [];
+      told = session.answer link.begun ∷ session.report (link.reply s) ∷ [];
+      bytes = s;
+      reply = given (aBlock 0x01) (0x00 ∷ 0x00 ∷ 0x01 ∷ 0x9B ∷ []) [];
+    }
+
+-- C13 `9B 08 01 00 00`: reply complete without a byte.
+abbrev pub c13-reply : ReplyCase
+c13-reply =
+    record {
+      kind = kindIn 0x08 (0x01 ∷ 0x00 ∷ 0x00 ∷ []);
+      raw = [];
+      told = session.answer link.complete ∷ [];
+      bytes = [];
+      reply = given block [] [];
+    }
+
+-- C15 OSBGET waits, `80 9B 81 41` arrives: Escape on, then Cy 1, A &41.
+abbrev pub c15 : ReplyCase
+c15 =
+    let s : List ℕ = 0x80 ∷ 0x41 ∷ [] in
+    record {
+      kind = osbget;
+      raw = 0x80 ∷ 0x9B ∷ 0x81 ∷ 0x41 ∷ [];
+      told = session.answer link.begun ∷ session.report (link.escapeState true) ∷ session.report (link.reply s) ∷ [];
+      bytes = s;
+      reply = given (carryA true 0x41) [] [];
+    }
+
+unfoldable pub replyCases : List ReplyCase
+replyCases = c10 ∷ c13-reply ∷ c15 ∷ []

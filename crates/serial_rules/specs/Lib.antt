@@ -2,7 +2,11 @@ pub mod Escape
 pub mod Marks
 pub mod Call
 pub mod Body
+pub mod Lent
 pub mod Reader
 pub mod Stream
 pub mod Fields
+pub mod Reply
+pub mod Link
+pub mod Session
 pub mod Cases
