@@ -1,0 +1,211 @@
+// The kinds of call, and how what belongs to each reply ends.
+ghost use Prim.Native.Nat.{_-_, _≤_};
+ghost use mathlib.Core.Path.{_≡_};
+ghost use mathlib.Core.Bool.{cond};
+ghost use lib.Dec.{eqb};
+ghost use Rattle.serial_rules.specs.Body.{fixedTurn};
+ghost use Rattle.serial_rules.specs.Fields.{at, last};
+ghost use Rattle.serial_rules.specs.Reply.{osfindClose, osfindOpen, shapeOf, formOf, blockIn, kindIn, line, text, shapeTurn, longest};
+use strings::Text;
+use turns::Turn;
+ghost use Rattle.turns.specs.Turns.{turnOf};
+ghost use Rattle.kind.specs.Kinds.{kindFor, shapeFor};
+
+// A call as far as its reply goes; OSWORD carries the number of bytes that come back.
+pub enum CallKind {
+    Osrdch,
+    Oscli,
+    OsbyteLow,
+    OsbyteHigh,
+    Osword(u8),
+    Osword0,
+    Osargs,
+    Osbget,
+    Osbput,
+    OsfindClose,
+    OsfindOpen,
+    Osfile,
+    Osgbpb,
+}
+
+// How bytes that belong together end: so many of them; a line behind one byte; a text behind one number.
+pub enum Shape {
+    Fixed(u8),
+    Line,
+    Text,
+}
+
+impl CallKind {
+    // The kind of a finished request, by its code and body.
+    pub fn of_request(code: u8, body: &[u8]) -> CallKind
+        ensures { λ r. ⌜ kindFor r ≡ kindIn code (now (body .entry)) ⌝ }
+    {
+        match code {
+            0x02 => CallKind::Oscli,
+            0x04 => CallKind::OsbyteLow,
+            0x06 => CallKind::OsbyteHigh,
+            0x08 => CallKind::Osword(last_byte(body)),
+            0x0A => CallKind::Osword0,
+            0x0C => CallKind::Osargs,
+            0x0E => CallKind::Osbget,
+            0x10 => CallKind::Osbput,
+            0x12 => find_kind(body),
+            0x14 => CallKind::Osfile,
+            0x16 => CallKind::Osgbpb,
+            _ => CallKind::Osrdch,
+        }
+    }
+
+    // How the reply ends.
+    pub fn shape(self) -> Shape
+        ensures { λ r. ⌜ shapeFor r ≡ shapeOf (kindFor self) ⌝ }
+    {
+        match self {
+            CallKind::Osrdch => Shape::Fixed(2),
+            CallKind::Oscli => Shape::Fixed(1),
+            CallKind::OsbyteLow => Shape::Fixed(1),
+            CallKind::OsbyteHigh => Shape::Fixed(3),
+            CallKind::Osword(n) => Shape::Fixed(n),
+            CallKind::Osword0 => Shape::Line,
+            CallKind::Osargs => Shape::Fixed(5),
+            CallKind::Osbget => Shape::Fixed(2),
+            CallKind::Osbput => Shape::Fixed(1),
+            CallKind::OsfindClose => Shape::Fixed(1),
+            CallKind::OsfindOpen => Shape::Fixed(1),
+            CallKind::Osfile => Shape::Fixed(17),
+            CallKind::Osgbpb => Shape::Fixed(15),
+        }
+    }
+
+    // The form of the reply, by number.
+    pub fn form(self) -> u8
+        ensures { λ r. ⌜ r ≡ formOf (kindFor self) ⌝ }
+    {
+        match self {
+            CallKind::Osrdch => 0,
+            CallKind::Oscli => 1,
+            CallKind::OsbyteLow => 2,
+            CallKind::OsbyteHigh => 3,
+            CallKind::Osword(_) => 4,
+            CallKind::Osword0 => 5,
+            CallKind::Osargs => 6,
+            CallKind::Osbget => 0,
+            CallKind::Osbput => 7,
+            CallKind::OsfindClose => 7,
+            CallKind::OsfindOpen => 2,
+            CallKind::Osfile => 6,
+            CallKind::Osgbpb => 8,
+        }
+    }
+
+    // The length of the reply's block.
+    pub fn block_length(self) -> usize
+        ensures { λ r. ⌜ r ≡ blockIn (kindFor self) ⌝ }
+    {
+        match self {
+            CallKind::Osrdch => 0,
+            CallKind::Oscli => 0,
+            CallKind::OsbyteLow => 0,
+            CallKind::OsbyteHigh => 0,
+            CallKind::Osword(n) => n as usize,
+            CallKind::Osword0 => 0,
+            CallKind::Osargs => 4,
+            CallKind::Osbget => 0,
+            CallKind::Osbput => 0,
+            CallKind::OsfindClose => 0,
+            CallKind::OsfindOpen => 0,
+            CallKind::Osfile => 16,
+            CallKind::Osgbpb => 13,
+        }
+    }
+}
+
+// The last byte, 0 where there is none.
+fn last_byte(body: &[u8]) -> u8
+    ensures { λ r. ⌜ r ≡ last (now (body .entry)) ⌝ }
+{
+    let n = body.len();
+    if n == 0 {
+        return 0;
+    }
+    body[n - 1]
+}
+
+// Closing or opening, by the first byte.
+fn find_kind(body: &[u8]) -> CallKind
+    ensures { λ r. ⌜ kindFor r ≡ cond (eqb (at (now (body .entry)) 0) 0) osfindClose osfindOpen ⌝ }
+{
+    if body.len() == 0 {
+        return CallKind::OsfindClose;
+    }
+    if body[0] == 0 {
+        return CallKind::OsfindClose;
+    }
+    CallKind::OsfindOpen
+}
+
+impl Shape {
+    // The longest of all shapes.
+    pub const LONGEST: usize = 257;
+
+    // The most bytes that one has.
+    pub fn longest(self) -> usize
+        ensures { λ r. ⌜ (r ≡ longest (shapeFor self)) × (r ≤ 257) ⌝ }
+    {
+        match self {
+            Shape::Fixed(n) => n as usize,
+            Shape::Line => Shape::LONGEST,
+            Shape::Text => Shape::LONGEST,
+        }
+    }
+
+    // The byte b after n bytes.
+    pub fn turn(self, n: usize, b: u8) -> Turn
+        ensures { λ r. ⌜ turnOf r ≡ shapeTurn (shapeFor self) n b ⌝ }
+    {
+        match self {
+            Shape::Fixed(k) => counted_turn(n, k as usize),
+            Shape::Line => line_turn(n, b),
+            Shape::Text => text_turn(n, b),
+        }
+    }
+}
+
+// The byte at index n of k bytes.
+fn counted_turn(n: usize, k: usize) -> Turn
+    ensures { λ r. ⌜ turnOf r ≡ fixedTurn n (k - 1) ⌝ }
+{
+    if k == 0 {
+        return Turn::Done;
+    }
+    turns::fixed_turn(n, k - 1)
+}
+
+// A byte of a line. Bit 7 of the first one says that there is none.
+fn line_turn(n: usize, b: u8) -> Turn
+    ensures { λ r. ⌜ turnOf r ≡ shapeTurn line n b ⌝ }
+{
+    if n == 0 {
+        if b / 128 % 2 == 1 {
+            return Turn::Done;
+        }
+        return Turn::More;
+    }
+    turns::string_turn(n - 1, b)
+}
+
+// A byte of a text behind its number; &00 ends it.
+fn text_turn(n: usize, b: u8) -> Turn
+    ensures { λ r. ⌜ turnOf r ≡ shapeTurn text n b ⌝ }
+{
+    if n == 0 {
+        return Turn::More;
+    }
+    if b == 0 {
+        return Turn::Done;
+    }
+    if n - 1 < Text::LIMIT {
+        return Turn::More;
+    }
+    Turn::Refused(6)
+}
