@@ -1,0 +1,21 @@
+-- The two tests are those of the definition.
+use borrow.Author.Tests.{eq-eqb, ne-eqb}
+use Rattle.link.proofs.failure.Statement.{statement}
+use Rattle.link.proofs.failure.Tie as tie
+
+returns : tie.Need-returns
+returns c = simp (eq-eqb _ _ (c .before .if1 .taken), eq-eqb _ _ (c .if2 .taken))
+
+returns-2 : tie.Need-returns-2
+returns-2 c = simp (eq-eqb _ _ (c .before .if1 .taken), ne-eqb _ _ (c .if2 .left))
+
+returns-3 : tie.Need-returns-3
+returns-3 c = simp (ne-eqb _ _ (c .if1 .left))
+
+pub failure-spec : {M : Type 1} → statement M
+failure-spec =
+    tie.close
+    (tie.spec
+    returns
+    returns-2
+    returns-3)

@@ -1,0 +1,104 @@
+-- What the parts of a step and of the loop promise.
+use Prim.Native.Nat.{ℕ}
+use mathlib.Core.Path.{_≡_}
+use mathlib.Core.Bool.{Bool, true, false, cond, not}
+use mathlib.Core.List.{List, []}
+use lib.Dec.{eqb}
+use lib.ListN.{take}
+use Rattle.serial_rules.specs.Fields.{at}
+use Rattle.serial_rules.specs.Link as rules
+use Rattle.link.specs.declared.Wait.{Wait}
+use Rattle.link.specs.declared.Action.{Action}
+use Rattle.link.specs.declared.Action.the-variants.{Error, Event, Address}
+use Rattle.link.specs.declared.Doing.{Doing}
+use Rattle.link.specs.declared.Doing.the-variants.{Quiet}
+use Rattle.link.specs.declared.Link.{Link}
+use Rattle.link.specs.declared.Answer.{Answer}
+use Rattle.link.specs.declared.Answer.the-variants as variant
+use Rattle.link.specs.declared.Stepped.{Stepped}
+use Rattle.link.specs.declared.Begun.{Begun}
+use Rattle.link.specs.declared.Started.{Started}
+use Rattle.link.specs.declared.Ran.{Ran}
+use Rattle.link.specs.View.{waitFor, doingFor, viewOf, reportOf, tokenLent, doingLent, stoppedFrom}
+use Rattle.link.specs.Run.{passes, noteOf}
+
+abbrev pub begunFrom : Link → Begun → Started
+begunFrom l a = record { answer = a; link = l }
+
+-- what a step leaves: the record stopped; an escape seen; the reply at its place; or no action open
+abbrev pub refusedFrom : Link → ℕ → Stepped
+refusedFrom l n = record { answer = variant.Refused n; link = stoppedFrom l }
+
+abbrev pub pausedFrom : Link → Stepped
+pausedFrom l = record { answer = variant.More; link = record { wait = l .wait; got = l .got; escape = true; doing = l .doing; held = l .held; stopped = false } }
+
+abbrev pub goingFrom : Link → Answer → Doing → ℕ → Stepped
+goingFrom l a d n = record { answer = a; link = record { wait = l .wait; got = l .got; escape = false; doing = d; held = n; stopped = false } }
+
+abbrev pub restingWith : Answer → Wait → ℕ → Stepped
+restingWith a w n = record { answer = a; link = record { wait = w; got = n; escape = false; doing = Quiet; held = 0; stopped = false } }
+
+-- the frame and what the actions do, of a record with its lent bytes
+abbrev pub frameOf : Link → List ℕ → rules.Frame
+frameOf l reply = rules.frame (waitFor (l .wait)) (take (l .got) reply)
+
+abbrev pub doingOf : Link → List ℕ → rules.Doing
+doingOf l own = doingFor (l .doing) (take (l .held) own)
+
+abbrev pub stepOf : Stepped → List ℕ → List ℕ → rules.Step
+stepOf r reply own = rules.gives (reportOf (r .answer) reply own) (viewOf (r .link) reply own)
+
+-- The result is that of a step of the rules, and the lent bytes left are those `after`; a refusal leaves the record given, stopped.
+pub record Gives (link : Link) (step : rules.Step) (reply-after own-after : List ℕ) (r : Stepped) (reply-left own-left : List ℕ) : Type 0 where
+  pub step-is : stepOf r reply-left own-left ≡ step
+  pub reply-bytes : reply-left ≡ reply-after
+  pub own-bytes : own-left ≡ own-after
+  pub stops : (n : ℕ) → r .answer ≡ variant.Refused n → r .link ≡ stoppedFrom link
+
+-- the same, of what the escape layer and the actions make of a raw byte
+abbrev pub seenStep : rules.Frame → rules.Seen → rules.Step
+seenStep f s = rules.gives (rules.meets f (s .token) .report) (rules.linkAt (s .next) (rules.meets f (s .token) .next))
+
+abbrev pub Met : Link → List ℕ → List ℕ → rules.Seen → Stepped → List ℕ → List ℕ → Type 0
+Met l reply own-after s r reply-left own-left =
+    Gives l (seenStep (frameOf l reply) s) (tokenLent reply (frameOf l reply) (s .token)) own-after r reply-left own-left
+
+-- a mark, whatever bytes are lent: any, and one outside an action
+abbrev pub Mark-done : Link → ℕ → Stepped → Type 0
+Mark-done l m r = (reply own : List ℕ) → Met l reply own (rules.markSeen (doingOf l own) m) r reply own
+
+abbrev pub Opening-done : Link → ℕ → Stepped → Type 0
+Opening-done l m r = (reply own : List ℕ) → Met l reply own (rules.markOutside m) r reply own
+
+-- a data byte: any, one outside an action, and one of an open action's own
+abbrev pub Data-done : Link → List ℕ → List ℕ → ℕ → Stepped → List ℕ → List ℕ → Type 0
+Data-done l reply own b r reply-left own-left = Met l reply (doingLent own (doingOf l own) b) (rules.dataSeen (doingOf l own) b) r reply-left own-left
+
+abbrev pub Reply-done : Link → List ℕ → ℕ → Stepped → List ℕ → Type 0
+Reply-done l reply b r reply-left = (own : List ℕ) → Met l reply own (rules.dataSeen rules.none b) r reply-left own
+
+abbrev pub Own-done : Link → List ℕ → ℕ → Stepped → List ℕ → Type 0
+Own-done l own b r own-left = (reply : List ℕ) → Data-done l reply own b r reply own-left
+
+-- the action's n own bytes and its last one are the first of the lent ones
+abbrev pub finishAt : Action → ℕ → List ℕ → rules.Token
+finishAt Error n own = rules.failed (rules.failureOf (take n own))
+finishAt Event n own = rules.acted (rules.event (at own 0) (at own 1) (at own 2))
+finishAt Address n own = rules.acted (rules.address (at own 0) (at own 1) (at own 2) (at own 3))
+
+abbrev pub Finished-done : Link → Action → List ℕ → Stepped → Type 0
+Finished-done l a own r = (reply : List ℕ) → Met l reply own (rules.seen (finishAt a (l .held) own) (rules.layer false rules.none)) r reply own
+
+abbrev pub failureFor : ℕ → ℕ → Answer
+failureFor n k = cond (eqb n 0) (cond (eqb k 0) variant.Restart (variant.Error n k)) (variant.Error n k)
+
+-- what the loop leaves
+abbrev pub endedFrom : Link → Answer → ℕ → ℕ → Ran
+endedFrom l a used noted = record { answer = a; used = used; noted = noted; link = l }
+
+-- Whether an answer ends the loop, and the note of one that does not: neither asks for the lent bytes.
+abbrev pub endsOf : Answer → Bool
+endsOf a = not (passes (reportOf a [] []))
+
+abbrev pub noteFor : Answer → List ℕ
+noteFor a = noteOf (reportOf a [] [])

@@ -1,0 +1,96 @@
+-- The fields of a reply in its bytes, and a writer's answers by their tests.
+use Prim.Native.Nat.{ℕ, _+_, _-_, _≤_, _<_}
+use mathlib.Core.Path.{_≡_, refl, sym, ap, subst, _∙_}
+use mathlib.Core.Bool.{Bool, true, false, not, _&&_}
+use mathlib.Core.List.{List, [], _∷_}
+use native.Mathlib.Omega.{arith}
+use lib.Dec.{eqb, ltb}
+use lib.ListN.{length, take, drop, List·getD-eq-default}
+use lib.Seq.{take-all, take-length}
+use borrow.Author.Tests.{ne-eqb, ltb-true, ltb-false}
+use Rattle.serial_rules.specs.Escape.{escaped}
+use Rattle.serial_rules.specs.Call.{hasReturn}
+use Rattle.serial_rules.specs.Fields.{at}
+use Rattle.serial_rules.specs.Reply as rules
+use Rattle.fields.specs.Promise.{Writer-done}
+use Rattle.fields.specs.declared.Written.{Written}
+use Rattle.fields.specs.declared.Written.the-variants.{TooLong, BadField}
+use Rattle.kind.specs.Kinds.{kindFor}
+use Rattle.kind.specs.declared.CallKind.{CallKind}
+use Rattle.reply.specs.declared.Reply.{Reply}
+use Rattle.reply.specs.declared.Reply.the-variants.{ReadLine, EscapedLine}
+use Rattle.reply.specs.declared.Given.{Given}
+use Rattle.reply.specs.Promise.{replyFor, Given-done}
+use Rattle.reply.specs.Parts.{Bytes-done, numbersAt, blockAt}
+
+-- a reply of numbers alone
+pub numbers-given : (s : List ℕ) (r : Reply) (g : rules.Reply) → replyFor r ≡ g → Given-done s (rules.given g [] []) (numbersAt r)
+numbers-given s r g e = record { reply-is = ap (λ (x : rules.Reply). rules.given x [] []) e; block-within = omega arith; text-within = omega arith }
+
+-- one with a block
+pub block-given : (s b : List ℕ) (r : Reply) (g : rules.Reply) (start n : ℕ) → replyFor r ≡ g → take n (drop start s) ≡ b → start + n ≤ length s
+    → Given-done s (rules.given g b []) (blockAt r start n)
+block-given s b r g start n e h m = record { reply-is = rw (e, h) refl; block-within = m; text-within = omega arith }
+
+-- A, and all that is behind it
+pub behind-a : (s : List ℕ) → take (length s - 1) (drop 1 s) ≡ drop 1 s
+behind-a [] = refl
+behind-a (x ∷ s) = let e : length (x ∷ s) - 1 ≡ length s = omega arith in rw e (take-length s)
+
+pub none-behind : (s : List ℕ) → length s ≡ 0 → drop 1 s ≡ []
+none-behind [] h = refl
+none-behind (x ∷ s) h = absurd (omega (arith, h))
+
+pub none-at : (s : List ℕ) (i : ℕ) → length s ≤ i → at s i ≡ 0
+none-at s i h = List·getD-eq-default s 0 h
+
+-- the first 13 bytes, or all where there are fewer
+pub most-taken : (s : List ℕ) (n : ℕ) → n ≤ length s → n ≤ 13 → (n < 13 → n ≡ length s) → take n (drop 0 s) ≡ take 13 s
+most-taken s n a b h = go (ltb n 13) refl
+  where
+    go : (t : Bool) → ltb n 13 ≡ t → take n s ≡ take 13 s
+    go true e = take-all n s (omega (arith, h (ltb-true n 13 e))) ∙ sym (take-all 13 s (omega (arith, h (ltb-true n 13 e))))
+    go false e = let q : n ≡ 13 = omega (arith, ltb-false n 13 e) in rw q refl
+
+-- a line
+pub gone-given : (s : List ℕ) → rules.flag (at s 0) ≡ true → Given-done s (rules.replyRead rules.osword0 s) (numbersAt EscapedLine)
+unfolding rules.replyRead
+gone-given s h = rw h (numbers-given s EscapedLine rules.escapedLine refl)
+
+pub short-given : (s : List ℕ) → rules.flag (at s 0) ≡ false → length s < 2 → Given-done s (rules.replyRead rules.osword0 s) (numbersAt ReadLine)
+unfolding rules.replyRead
+short-given s h m = let e : length s - 2 ≡ 0 = omega arith in rw (h, e) (numbers-given s ReadLine rules.readLine refl)
+
+pub typed-given : (s : List ℕ) → rules.flag (at s 0) ≡ false → 2 ≤ length s
+    → Given-done s (rules.replyRead rules.osword0 s) (record { reply = ReadLine; «block_start» = 0; «block_length» = 0; «text_start» = 1; «text_length» = length s - 2 })
+unfolding rules.replyRead
+typed-given s h m = rw h (record { reply-is = refl; block-within = omega arith; text-within = omega arith })
+
+-- The writer: refused, or its fields are the bytes of the reply.
+pub too-long : (k : rules.Kind) (r : rules.Reply) (b t out : List ℕ) → ltb 255 (length t) ≡ true
+    → Writer-done (rules.replyNumber k r b t (length out)) (escaped (rules.replyBytes r b t)) out TooLong out
+unfolding rules.replyNumber
+too-long k r b t out h = simp h (record { answer = refl; written = refl; bytes = refl })
+
+pub bad-field : (k : rules.Kind) (r : rules.Reply) (b t out : List ℕ) → ltb 255 (length t) ≡ false → rules.replyOk k r b t ≡ false
+    → Writer-done (rules.replyNumber k r b t (length out)) (escaped (rules.replyBytes r b t)) out BadField out
+unfolding rules.replyNumber
+bad-field k r b t out h o = simp (h, o) (record { answer = refl; written = refl; bytes = refl })
+
+pub wrote : (k : rules.Kind) (r q : Reply) (b t l out left : List ℕ) (w : Written) → ltb 255 (length t) ≡ false → rules.replyOk k (replyFor r) b t ≡ true
+    → r ≡ q → Bytes-done l out w left → l ≡ rules.replyBytes (replyFor q) b t
+    → Writer-done (rules.replyNumber k (replyFor r) b t (length out)) (escaped (rules.replyBytes (replyFor r) b t)) out w left
+unfolding rules.replyNumber
+wrote k r q b t l out left w h o p d e =
+    let f : l ≡ rules.replyBytes (replyFor r) b t = e ∙ ap (λ (u : Reply). rules.replyBytes (replyFor u) b t) (sym p) in
+    simp (h, o, ← f) d
+
+-- no string is a clean one
+pub no-string : (t : List ℕ) → eqb (length t) 0 ≡ (eqb (length t) 0 && not (hasReturn t))
+unfolding hasReturn
+no-string [] = refl
+no-string (x ∷ t) = rw (ne-eqb (length (x ∷ t)) 0 (λ h. omega (arith, h))) refl
+
+-- the kind of the call decides what is read
+pub by-kind : (k q : CallKind) (s : List ℕ) (g : rules.Given) (r : Given) → k ≡ q → rules.replyRead (kindFor q) s ≡ g → Given-done s g r → Given-done s (rules.replyRead (kindFor k) s) r
+by-kind k q s g r e h d = subst (λ (u : rules.Given). Given-done s u r) (sym (ap (λ (x : CallKind). rules.replyRead (kindFor x) s) e ∙ h)) d
