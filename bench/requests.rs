@@ -31,6 +31,12 @@ struct TubeRead {
 }
 
 #[repr(C)]
+struct TubeFed {
+    read: TubeRead,
+    used: usize,
+}
+
+#[repr(C)]
 struct TubeWritten {
     length: usize,
     answer: u8,
@@ -39,6 +45,7 @@ struct TubeWritten {
 unsafe extern "C" {
     fn tube_reader(carrier: u8) -> TubeReader;
     fn tube_read(reader: TubeReader, raw: u8, body: *mut u8) -> TubeRead;
+    fn tube_feed(reader: TubeReader, raw: *const u8, length: usize, body: *mut u8) -> TubeFed;
     fn tube_write_request(
         carrier: u8,
         style: u8,
@@ -148,10 +155,22 @@ fn add(checksum: &mut u64, value: u64) {
     *checksum = checksum.rotate_left(7).wrapping_add(value).wrapping_mul(5);
 }
 
-/// A real call, like the library's.
+/// Real calls, like the library's: one byte, or bytes up to the first answer
+/// that is not need-more.
 #[inline(never)]
 fn rust_read(reader: &mut Reader, raw: u8, body: &mut [u8; BODY]) -> Read {
     reader.read(raw, body)
+}
+
+#[inline(never)]
+fn rust_feed(reader: &mut Reader, raw: &[u8], body: &mut [u8; BODY]) -> (Read, usize) {
+    for (at, &byte) in raw.iter().enumerate() {
+        let read = reader.read(byte, body);
+        if read != Read::More {
+            return (read, at + 1);
+        }
+    }
+    (Read::More, raw.len())
 }
 
 #[inline(never)]
@@ -159,51 +178,90 @@ fn rust_write(request: &Request, out: &mut [u8]) -> Result<usize, u8> {
     request.write(out)
 }
 
-/// ns a raw byte, and a checksum of all answers.
-fn read_library(carrier: u8, stream: &[u8]) -> (f64, u64) {
+/// ns a raw byte, and a checksum of all answers but need-more.
+fn read(stream: &[u8], answers: impl FnOnce(&mut u64)) -> (f64, u64) {
     let mut checksum = 0;
-    let mut body = [0; BODY];
     let start = Instant::now();
-    let mut reader = unsafe { tube_reader(carrier) };
-    for &raw in stream {
-        let read = unsafe { tube_read(reader, raw, body.as_mut_ptr()) };
-        reader = read.reader;
-        if read.kind != 0 {
-            add(&mut checksum, read.kind as u64);
-            add(&mut checksum, (read.code as u64) << 8 | read.style as u64);
-            add(&mut checksum, read.length as u64);
-        }
-    }
+    answers(&mut checksum);
     (
         start.elapsed().as_nanos() as f64 / stream.len() as f64,
         checksum,
     )
 }
 
-fn read_rust(carrier: u8, stream: &[u8]) -> (f64, u64) {
-    let mut checksum = 0;
-    let mut body = [0; BODY];
-    let start = Instant::now();
-    let mut reader = Reader::new(carrier);
-    for &raw in stream {
-        let (kind, code, style, length) = match rust_read(&mut reader, raw, &mut body) {
-            Read::More => continue,
-            Read::Character(_) => (1, 0, 0, 0),
-            Read::Request {
-                style,
-                code,
-                length,
-            } => (2, code, style, length),
-            Read::Refused(_) => (3, 0, 0, 0),
-        };
-        add(&mut checksum, kind);
-        add(&mut checksum, (code as u64) << 8 | style as u64);
-        add(&mut checksum, length as u64);
+fn add_library(checksum: &mut u64, read: &TubeRead) {
+    if read.kind != 0 {
+        add(checksum, read.kind as u64);
+        add(checksum, (read.code as u64) << 8 | read.style as u64);
+        add(checksum, read.length as u64);
     }
-    (
-        start.elapsed().as_nanos() as f64 / stream.len() as f64,
-        checksum,
-    )
+}
+
+fn add_rust(checksum: &mut u64, read: Read) {
+    let (kind, code, style, length) = match read {
+        Read::More => return,
+        Read::Character(_) => (1, 0, 0, 0),
+        Read::Request {
+            style,
+            code,
+            length,
+        } => (2, code, style, length),
+        Read::Refused(_) => (3, 0, 0, 0),
+    };
+    add(checksum, kind);
+    add(checksum, (code as u64) << 8 | style as u64);
+    add(checksum, length as u64);
+}
+
+fn feed_library(carrier: u8, stream: &[u8]) -> (f64, u64) {
+    read(stream, |checksum| {
+        let mut body = [0; BODY];
+        let mut reader = unsafe { tube_reader(carrier) };
+        let mut left = stream;
+        while !left.is_empty() {
+            let (raw, length) = (left.as_ptr(), left.len());
+            let fed = unsafe { tube_feed(reader, raw, length, body.as_mut_ptr()) };
+            add_library(checksum, &fed.read);
+            reader = fed.read.reader;
+            left = &left[fed.used..];
+        }
+    })
+}
+
+fn feed_rust(carrier: u8, stream: &[u8]) -> (f64, u64) {
+    read(stream, |checksum| {
+        let mut body = [0; BODY];
+        let mut reader = Reader::new(carrier);
+        let mut left = stream;
+        while !left.is_empty() {
+            let (read, used) = rust_feed(&mut reader, left, &mut body);
+            add_rust(checksum, read);
+            left = &left[used..];
+        }
+    })
+}
+
+fn read_library(carrier: u8, stream: &[u8]) -> (f64, u64) {
+    read(stream, |checksum| {
+        let mut body = [0; BODY];
+        let mut reader = unsafe { tube_reader(carrier) };
+        for &raw in stream {
+            let read = unsafe { tube_read(reader, raw, body.as_mut_ptr()) };
+            add_library(checksum, &read);
+            reader = read.reader;
+        }
+    })
+}
+
+fn read_rust(carrier: u8, stream: &[u8]) -> (f64, u64) {
+    read(stream, |checksum| {
+        let mut body = [0; BODY];
+        let mut reader = Reader::new(carrier);
+        for &raw in stream {
+            let read = rust_read(&mut reader, raw, &mut body);
+            add_rust(checksum, read);
+        }
+    })
 }
 
 /// ns a byte written, and a checksum of the lengths and the last bytes.
@@ -269,7 +327,7 @@ fn main() -> ExitCode {
         ("OSFILE, 255 bytes", SERIAL, long(11, 16)),
     ];
     println!(
-        "{:<20}{:>14}{:>9}{:>15}{:>16}{:>9}{:>15}",
+        "{:<30}{:>14}{:>9}{:>15}{:>16}{:>9}{:>15}",
         "ns a byte",
         "read: library",
         "Rust",
@@ -278,6 +336,7 @@ fn main() -> ExitCode {
         "Rust",
         "library/Rust"
     );
+    let mut bytewise = Vec::new();
     for (name, carrier, load) in &loads {
         let requests: Vec<Request> = load.iter().map(|l| l.request(*carrier)).collect();
         let mut stream = Vec::new();
@@ -286,20 +345,32 @@ fn main() -> ExitCode {
             let length = request.write(&mut out).unwrap();
             stream.extend_from_slice(&out[..length]);
         }
+        let fed = best(
+            || feed_library(*carrier, &stream),
+            || feed_rust(*carrier, &stream),
+        );
         let read = best(
             || read_library(*carrier, &stream),
             || read_rust(*carrier, &stream),
         );
         let written = best(|| write_library(&requests), || write_rust(&requests));
-        let (Some([rl, rr]), Some([wl, wr])) = (read, written) else {
+        let (Some([fl, fr]), Some([rl, rr]), Some([wl, wr])) = (fed, read, written) else {
             println!("FAILED {name}: answers differ");
             return ExitCode::FAILURE;
         };
         println!(
-            "{name:<20}{rl:>14.2}{rr:>9.2}{:>15.2}{wl:>16.2}{wr:>9.2}{:>15.2}",
-            rl / rr,
+            "{name:<30}{fl:>14.2}{fr:>9.2}{:>15.2}{wl:>16.2}{wr:>9.2}{:>15.2}",
+            fl / fr,
             wl / wr
         );
+        bytewise.push(format!(
+            "{:<30}{rl:>14.2}{rr:>9.2}{:>15.2}",
+            format!("{name}, by the byte"),
+            rl / rr
+        ));
+    }
+    for row in bytewise {
+        println!("{row}");
     }
     ExitCode::SUCCESS
 }

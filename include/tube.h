@@ -99,6 +99,16 @@ TubeReader tube_reader(uint8_t carrier);
 /* One raw byte. The bytes of the body so far stand in the lent body, which the caller keeps from call to call. */
 TubeRead tube_read(TubeReader reader, uint8_t raw, uint8_t body[TUBE_BODY]);
 
+/* What a slice of raw bytes gives. */
+typedef struct {
+    TubeRead read; /* its first answer that is not need-more, or need-more where it ends first */
+    size_t used;   /* the bytes of the slice that were read, that answer's too; the next slice starts behind them */
+} TubeFed;
+
+/* Raw bytes, one by one as tube_read takes them, up to the first answer that is not need-more: faster, since the record is handed over
+ * once. An empty slice needs more and gives the record back. */
+TubeFed tube_feed(TubeReader reader, const uint8_t *raw, size_t raw_length, uint8_t body[TUBE_BODY]);
+
 typedef enum {
     TUBE_OSRDCH, TUBE_OSCLI, TUBE_OSBYTE_LOW, TUBE_OSBYTE_HIGH, TUBE_OSWORD, TUBE_OSWORD0, TUBE_OSARGS, TUBE_OSBGET, TUBE_OSBPUT,
     TUBE_OSFIND_CLOSE, TUBE_OSFIND_OPEN, TUBE_OSFILE, TUBE_OSGBPB

@@ -1,5 +1,5 @@
 //! Compares the proved library's request reader with the second program: the
-//! same streams and single bytes go to both, and everything they give is
+//! same streams, slices and single bytes go to both, and everything they give is
 //! compared. Prints one line for each property, then `N passed, M failed`.
 
 use std::process::ExitCode;
@@ -40,9 +40,17 @@ struct TubeRead {
     code: u8,
 }
 
+#[repr(C)]
+#[derive(Clone, Copy, Debug)]
+struct TubeFed {
+    read: TubeRead,
+    used: usize,
+}
+
 unsafe extern "C" {
     fn tube_reader(carrier: u8) -> TubeReader;
     fn tube_read(reader: TubeReader, raw: u8, body: *mut u8) -> TubeRead;
+    fn tube_feed(reader: TubeReader, raw: *const u8, length: usize, body: *mut u8) -> TubeFed;
 }
 
 impl TubeReader {
@@ -82,6 +90,17 @@ fn library_read(reader: TubeReader, raw: u8, lent: &mut Lent) -> TubeRead {
     unsafe { tube_read(reader, raw, lent.as_mut_ptr().add(GUARD)) }
 }
 
+fn library_feed(reader: TubeReader, raw: &[u8], lent: &mut Lent) -> TubeFed {
+    unsafe {
+        tube_feed(
+            reader,
+            raw.as_ptr(),
+            raw.len(),
+            lent.as_mut_ptr().add(GUARD),
+        )
+    }
+}
+
 // ---- Properties ----
 
 #[derive(Clone, Copy)]
@@ -99,6 +118,13 @@ enum Property {
     StepRecord,
     StepBody,
     StepStopped,
+    SliceUsed,
+    SliceKind,
+    SliceValue,
+    SliceRequest,
+    SliceRecord,
+    SliceBody,
+    SliceStopped,
     InputRequests,
     InputRefusals,
     InputFirsts,
@@ -108,9 +134,10 @@ enum Property {
     InputRecords,
     InputBeyond,
     InputEscapeNumbers,
+    InputSlices,
 }
 
-const COUNT: usize = 22;
+const COUNT: usize = 30;
 
 /// Each property with its name and the least number of inputs it needs.
 #[rustfmt::skip]
@@ -128,6 +155,13 @@ const PROPERTIES: [(Property, &str, u64); COUNT] = [
     (Property::StepRecord, "step: record after", STEPS / 2),
     (Property::StepBody, "step: every lent byte", STEPS),
     (Property::StepStopped, "step: a stopped record is given back", STEPS / 10),
+    (Property::SliceUsed, "slice: bytes used", SLICES),
+    (Property::SliceKind, "slice: kind of answer", SLICES),
+    (Property::SliceValue, "slice: character or refusal number", SLICES),
+    (Property::SliceRequest, "slice: style, code and length", SLICES),
+    (Property::SliceRecord, "slice: record after", SLICES / 2),
+    (Property::SliceBody, "slice: every lent byte", SLICES),
+    (Property::SliceStopped, "slice: a stopped record, or one given no byte, is given back", SLICES / 10),
     (Property::InputRequests, "inputs: finished requests of each code and style", 1),
     (Property::InputRefusals, "inputs: each refusal in each place", 1),
     (Property::InputFirsts, "inputs: each mark, first byte and character", 1),
@@ -137,6 +171,7 @@ const PROPERTIES: [(Property, &str, u64); COUNT] = [
     (Property::InputRecords, "inputs: records of each code and count", 1),
     (Property::InputBeyond, "inputs: records beyond each limit", 1),
     (Property::InputEscapeNumbers, "inputs: each escape number", 1),
+    (Property::InputSlices, "inputs: each answer to slices whole, cut and from any record", 1),
 ];
 
 /// For each property the inputs compared and the first difference.
@@ -198,6 +233,15 @@ const STEP: Group = Group {
     record: Property::StepRecord,
     body: Property::StepBody,
     stopped: Property::StepStopped,
+};
+
+const SLICE: Group = Group {
+    kind: Property::SliceKind,
+    value: Property::SliceValue,
+    request: Property::SliceRequest,
+    record: Property::SliceRecord,
+    body: Property::SliceBody,
+    stopped: Property::SliceStopped,
 };
 
 // ---- Random inputs ----
@@ -367,6 +411,11 @@ struct Seen {
     beyond: [u64; 8],
     /// Escape numbers outside and inside.
     escapes: [[bool; 256]; 2],
+    /// Slices by their kind and answer.
+    slices: [[u64; 4]; 3],
+    /// Slices that are empty, start inside a request or inside an escape pair,
+    /// are used up with an answer, or have bytes left.
+    edges: [u64; 5],
 }
 
 impl Seen {
@@ -382,6 +431,8 @@ impl Seen {
             records: [[[0; BODY]; 12]; 2],
             beyond: [0; 8],
             escapes: [[false; 256]; 2],
+            slices: [[0; 4]; 3],
+            edges: [0; 5],
         })
     }
 
@@ -461,6 +512,27 @@ impl Seen {
         }
     }
 
+    /// Notes a slice: whole (0), cut (1), or from any record (2).
+    fn slice(&mut self, set: usize, before: &Reader, length: usize, answer: Read, used: usize) {
+        let kind = match answer {
+            Read::More => 0,
+            Read::Character(_) => 1,
+            Read::Request { .. } => 2,
+            Read::Refused(_) => 3,
+        };
+        self.slices[set][kind] += 1;
+        let edges = [
+            length == 0,
+            before.phase == INSIDE && used > 1,
+            before.escape && used > 1,
+            kind != 0 && used > 1 && used == length,
+            used > 1 && used < length,
+        ];
+        for (count, edge) in self.edges.iter_mut().zip(edges) {
+            *count += edge as u64;
+        }
+    }
+
     fn report(&self, report: &mut Report) {
         let mut need = |property: Property, missing: Option<String>| {
             report.check(property, missing.is_none(), || {
@@ -486,6 +558,10 @@ impl Seen {
         let few_escapes =
             few_escapes.map(|at| format!("escape numbers {}, phase {}", at % 256, at / 256));
         need(Property::InputEscapeNumbers, few_escapes);
+        let counts = self.slices.as_flattened().iter().chain(&self.edges);
+        let few_slices = counts.enumerate().find(|&(_, &count)| count < 2000);
+        let few_slices = few_slices.map(|(at, _)| format!("slices of kind {at}"));
+        need(Property::InputSlices, few_slices);
     }
 
     fn few_requests(&self) -> Option<String> {
@@ -578,7 +654,7 @@ fn every(a: usize, b: usize, c: usize) -> impl Iterator<Item = (usize, usize, us
     (0..a * b * c).map(move |at| (at / (b * c), at / c % b, at % c))
 }
 
-// ---- One byte ----
+// ---- One byte, one slice ----
 
 /// The library's record and lent bytes, and the second program's.
 struct Pair {
@@ -597,10 +673,51 @@ fn compare_byte(
     report: &mut Report,
     what: &dyn Fn() -> String,
 ) -> (Read, bool) {
-    let (record, reader) = (pair.record, pair.reader);
+    let (record, unchanged) = (pair.record, pair.reader.stopped());
     let library = library_read(record, raw, &mut pair.library);
     let answer = pair.reader.read(raw, body(&mut pair.second));
-    let after = library.reader;
+    let what = || format!("byte &{raw:02X} on {record:?}, {}", what());
+    let equal = compare_answer(pair, library, answer, unchanged, group, report, &what);
+    (answer, equal)
+}
+
+/// Gives a slice to the library and its bytes to the second program, up to the
+/// first answer that is not need-more, and compares; that program's answer, how
+/// many bytes it was given, and whether all was equal.
+fn compare_slice(
+    pair: &mut Pair,
+    raw: &[u8],
+    report: &mut Report,
+    what: &dyn Fn() -> String,
+) -> (Read, usize, bool) {
+    let record = pair.record;
+    let unchanged = pair.reader.stopped() || raw.is_empty();
+    let fed = library_feed(record, raw, &mut pair.library);
+    let (mut answer, mut used) = (Read::More, 0);
+    while answer == Read::More && used < raw.len() {
+        answer = pair.reader.read(raw[used], body(&mut pair.second));
+        used += 1;
+    }
+    let what = || format!("slice {raw:02X?} on {record:?}, {}", what());
+    report.check(Property::SliceUsed, fed.used == used, || {
+        format!("{fed:?}, second program {used}: {}", what())
+    });
+    let equal = compare_answer(pair, fed.read, answer, unchanged, &SLICE, report, &what);
+    (answer, used, equal && fed.used == used)
+}
+
+/// Compares what both gave, and takes over the library's record; whether all was
+/// equal. A record that stays unchanged is compared whole.
+fn compare_answer(
+    pair: &mut Pair,
+    library: TubeRead,
+    answer: Read,
+    unchanged: bool,
+    group: &Group,
+    report: &mut Report,
+    what: &dyn Fn() -> String,
+) -> bool {
+    let (record, after) = (pair.record, library.reader);
     pair.record = after;
 
     let (kind, value, request) = match answer {
@@ -613,7 +730,6 @@ fn compare_byte(
         } => (2, 0, (style, code, length)),
         Read::Refused(number) => (3, number, (0, 0, 0)),
     };
-    let what = || format!("byte &{raw:02X} on {record:?}, {}", what());
     let mut all = true;
     let mut check = |property: Property, good: bool, difference: &dyn Fn() -> String| {
         all &= good;
@@ -629,7 +745,7 @@ fn compare_byte(
     check(group.request, given == request, &|| {
         format!("{library:?}, second program {answer:?}")
     });
-    if reader.stopped() {
+    if unchanged {
         check(group.stopped, after == record, &|| format!("{after:?}"));
     } else {
         check(group.record, after.to_second() == pair.reader, &|| {
@@ -646,7 +762,7 @@ fn compare_byte(
             pair.second[at]
         )
     });
-    (answer, all)
+    all
 }
 
 // ---- Streams ----
@@ -796,6 +912,54 @@ fn compare_stream(
             pair.library = pair.second;
         }
     }
+    for cut in [false, true] {
+        compare_slices(random, carrier, events, cut, name, seen, report);
+    }
+}
+
+/// Plays a stream on both, in slices for the library: each goes up to the next
+/// reset, or is cut before it at random.
+fn compare_slices(
+    random: &mut Random,
+    carrier: u8,
+    events: &[Event],
+    cut: bool,
+    name: &str,
+    seen: &mut Seen,
+    report: &mut Report,
+) {
+    let mut start = [0; GUARD + BODY + GUARD];
+    random.fill(&mut start);
+    let mut pair = Pair {
+        record: unsafe { tube_reader(carrier) },
+        library: start,
+        reader: Reader::new(carrier),
+        second: start,
+    };
+    for run in events.split(|event| event.is_none()) {
+        pair.record = unsafe { tube_reader(carrier) };
+        pair.reader = Reader::new(carrier);
+        let run: Vec<u8> = run.iter().flatten().copied().collect();
+        let mut at = 0;
+        while at < run.len() {
+            if pair.reader.stopped() && random.one_in(6) {
+                pair.record = unsafe { tube_reader(carrier) };
+                pair.reader = Reader::new(carrier);
+            }
+            let left = run.len() - at;
+            let length = if cut { random.cut(left) } else { left };
+            let before = pair.reader;
+            let what = || format!("{name}, from byte {at} of a run");
+            let (answer, used, equal) =
+                compare_slice(&mut pair, &run[at..at + length], report, &what);
+            seen.slice(cut as usize, &before, length, answer, used);
+            at += used;
+            if !equal {
+                pair.record = TubeReader::from_second(&pair.reader);
+                pair.library = pair.second;
+            }
+        }
+    }
 }
 
 fn compare_streams(random: &mut Random, seen: &mut Seen, report: &mut Report) {
@@ -877,9 +1041,10 @@ fn compare_each(random: &mut Random, seen: &mut Seen, report: &mut Report) {
     }
 }
 
-// ---- Single steps from any record ----
+// ---- Single steps and slices from any record ----
 
 const STEPS: u64 = 4_000_000;
+const SLICES: u64 = 1_000_000;
 
 impl Random {
     /// A record within its limits and beyond.
@@ -958,6 +1123,16 @@ impl Random {
         lent
     }
 
+    /// Where a slice of at most `left` bytes is cut.
+    fn cut(&mut self, left: usize) -> usize {
+        match self.below(8) {
+            0 => 0,
+            1 => left,
+            2..5 => self.below(4).min(left),
+            _ => self.below(left + 1),
+        }
+    }
+
     fn raw(&mut self) -> u8 {
         match self.below(4) {
             0 => self.byte(),
@@ -984,6 +1159,24 @@ fn compare_step(record: TubeReader, raw: u8, lent: &Lent, seen: &mut Seen, repor
     };
     let (answer, _) = compare_byte(&mut pair, raw, &STEP, report, &what);
     seen.step(&record, answer);
+}
+
+/// A short slice from any record.
+fn compare_fed(random: &mut Random, seen: &mut Seen, report: &mut Report) {
+    let record = random.record();
+    let lent = random.lent(record.count);
+    let mut pair = Pair {
+        record,
+        library: lent,
+        reader: record.to_second(),
+        second: lent,
+    };
+    let before = pair.reader;
+    let length = random.below(9);
+    let raw: Vec<u8> = (0..length).map(|_| random.raw()).collect();
+    let what = || "any record".to_string();
+    let (answer, used, _) = compare_slice(&mut pair, &raw, report, &what);
+    seen.slice(2, &before, length, answer, used);
 }
 
 fn compare_steps(random: &mut Random, seen: &mut Seen, report: &mut Report) {
@@ -1032,6 +1225,9 @@ fn compare_steps(random: &mut Random, seen: &mut Seen, report: &mut Report) {
         let lent = random.lent(record.count);
         let raw = random.raw();
         compare_step(record, raw, &lent, seen, report);
+    }
+    for _ in 0..SLICES {
+        compare_fed(random, seen, report);
     }
 }
 

@@ -1,4 +1,5 @@
-/* The header against the library: the records' layout, one access of each kind, the example script, and a request written and read. */
+/* The header against the library: the records' layout, one access of each kind, the example script, and a request written and read,
+ * by the byte and in slices. */
 #include "../include/tube.h"
 #include <stdio.h>
 #include <string.h>
@@ -10,12 +11,18 @@ static void expect(const char *name, int right) {
     failed += !right;
 }
 
+static int same(TubeReader a, TubeReader b) {
+    return a.count == b.count && a.carrier == b.carrier && a.phase == b.phase && a.escape == b.escape && a.style == b.style && a.code == b.code;
+}
+
 int main(void) {
     TubeChip chip = tube_new();
     const uint8_t script[9] = {0x01, 0x00, 0x81, 0x03, 0x07, 0x2A, 0x00, 0x07, 0x00};
     const char *text = "0 0 0\n0 0 1\n0 42 0\nend 3 0\n";
     uint8_t results[9], out[64];
-    expect("layout", sizeof(TubeChip) == 33 && offsetof(TubeChip, held) == 24 && offsetof(TubeChip, flags) == 32);
+    expect("layout", sizeof(TubeChip) == 33 && offsetof(TubeChip, held) == 24 && offsetof(TubeChip, flags) == 32 && sizeof(TubeReader) == 16
+                         && offsetof(TubeReader, carrier) == 8 && sizeof(TubeRead) == 32 && offsetof(TubeRead, length) == 16
+                         && offsetof(TubeRead, kind) == 24 && sizeof(TubeFed) == 40 && offsetof(TubeFed, used) == 32);
 
     TubeReply taken = tube_access(&chip, TUBE_HOST, 1, TUBE_WRITE, 0x2A);
     TubeReply full = tube_access(&chip, TUBE_HOST, 1, TUBE_WRITE, 0x2B);
@@ -57,6 +64,39 @@ int main(void) {
     got = tube_read(got.reader, 'A', body);
     expect("a reader out of range is stopped", got.kind == TUBE_REFUSED && got.value == TUBE_STOPPED && got.reader.phase == 3);
 
-    printf("%d passed, %d failed\n", 7 - failed, failed);
+    /* The request in two slices, cut inside an escape pair; behind it a character that stays for the next call. */
+    const uint8_t mixed[13] = {0x9B, 0x62, 'D', 0x9B, 0x9B, 'R', 0x0D, 'A', 0x9B, 0x0A, 0x9B, 0x00, 'B'};
+    memset(body, 0, sizeof body);
+    TubeReader fresh = tube_reader(TUBE_SERIAL);
+    TubeFed none = tube_feed(fresh, mixed, 0, body);
+    expect("an empty slice needs more", none.read.kind == TUBE_NEED_MORE && none.used == 0 && same(none.read.reader, fresh));
+    TubeFed first = tube_feed(fresh, mixed, 4, body);
+    TubeFed second = tube_feed(first.read.reader, mixed + 4, 9, body);
+    expect("a request over two slices", first.read.kind == TUBE_NEED_MORE && first.used == 4 && first.read.reader.count == 1 && first.read.reader.escape == 1
+                                            && second.read.kind == TUBE_REQUEST && second.used == 3 && second.read.style == 3 && second.read.code == 2
+                                            && second.read.length == 4 && memcmp(body, name, 3) == 0 && body[3] == 0x0D);
+    TubeFed character = tube_feed(second.read.reader, mixed + 7, 6, body);
+    expect("a character before the end of a slice", character.read.kind == TUBE_CHARACTER && character.read.value == 'A' && character.used == 1);
+    TubeFed inside = tube_feed(character.read.reader, mixed + 8, 5, body);
+    expect("a refusal in the middle of a slice", inside.read.kind == TUBE_REFUSED && inside.read.value == TUBE_MARK_INSIDE && inside.used == 4
+                                                     && inside.read.reader.phase == TUBE_STOPPED_PHASE && inside.read.reader.code == 0x0A);
+    TubeFed stopped = tube_feed(inside.read.reader, mixed, 7, body);
+    TubeFed quiet = tube_feed(inside.read.reader, mixed, 0, body);
+    expect("a stopped reader is given back", stopped.read.kind == TUBE_REFUSED && stopped.read.value == TUBE_STOPPED && stopped.used == 1
+                                                 && same(stopped.read.reader, inside.read.reader) && quiet.read.kind == TUBE_NEED_MORE
+                                                 && quiet.used == 0 && same(quiet.read.reader, inside.read.reader));
+    TubeReader odd[2] = {fresh, fresh};
+    odd[0].phase = 3;
+    odd[1].carrier = 2;
+    int given = 1;
+    for (int i = 0; i < 2; i++) {
+        stopped = tube_feed(odd[i], mixed, 7, body);
+        quiet = tube_feed(odd[i], mixed, 0, body);
+        given = given && stopped.read.kind == TUBE_REFUSED && stopped.read.value == TUBE_STOPPED && stopped.used == 1 && same(stopped.read.reader, odd[i])
+                && quiet.read.kind == TUBE_NEED_MORE && quiet.used == 0 && same(quiet.read.reader, odd[i]);
+    }
+    expect("a slice to a reader out of range", given && memcmp(body, name, 3) == 0 && body[3] == 0x0D);
+
+    printf("%d passed, %d failed\n", 13 - failed, failed);
     return failed != 0;
 }

@@ -1,4 +1,5 @@
 pub mod Bytes
+pub mod Feed
 pub mod Limits
 pub mod Steps
 pub mod Streams

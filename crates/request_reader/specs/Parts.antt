@@ -5,22 +5,14 @@ use mathlib.Core.Bool.{Bool, cond}
 use mathlib.Core.List.{List}
 use lib.ListN.{take}
 use Rattle.serial_rules.specs.Escape as escape
-use Rattle.serial_rules.specs.Body as body
 use Rattle.serial_rules.specs.Reader as rules
 use Rattle.request_reader.specs.View.{carrierOf, answerOf, viewOf, pieceLent, stoppedFrom}
-use Rattle.request_reader.specs.declared.turns.Turn.{Turn}
-use Rattle.request_reader.specs.declared.turns.Turn.the-variants as turn
 use Rattle.request_reader.specs.declared.Phase.{Phase}
 use Rattle.request_reader.specs.declared.Phase.the-variants.{Outside, Inside, Stopped}
 use Rattle.request_reader.specs.declared.Reader.{Reader}
 use Rattle.request_reader.specs.declared.Answer.{Answer}
 use Rattle.request_reader.specs.declared.Answer.the-variants.{More, Refused}
 use Rattle.request_reader.specs.declared.Stepped.{Stepped}
-
-abbrev pub turnOf : Turn → body.Turn
-turnOf turn.More = body.more
-turnOf turn.Done = body.done
-turnOf (turn.Refused n) = body.refused n
 
 -- the phase of a record whose limits are kept or not
 abbrev pub standingOf : Phase → Bool → Phase

@@ -4,10 +4,11 @@ use mathlib.Core.Path.{_≡_}
 use mathlib.Core.Bool.{Bool, false, cond, _&&_}
 use mathlib.Core.List.{List}
 use lib.Dec.{ltb}
-use lib.ListN.{length, take, set}
+use lib.ListN.{length, take}
 use Rattle.serial_rules.specs.Escape as escape
 use Rattle.serial_rules.specs.Call as call
 use Rattle.serial_rules.specs.Body as body
+use Rattle.serial_rules.specs.Lent.{turnLent}
 use Rattle.serial_rules.specs.Reader as rules
 use Rattle.request_reader.specs.declared.Carrier.{Carrier}
 use Rattle.request_reader.specs.declared.Carrier.the-variants.{Serial, Parallel}
@@ -43,11 +44,6 @@ answerOf (Request style code n) lent = rules.request style code (take n lent)
 answerOf (Refused n) lent = rules.refusal n
 
 -- every lent byte after a raw byte: a data byte that the body takes stands behind the bytes so far, and no other byte changes
-abbrev pub turnLent : List ℕ → ℕ → ℕ → body.Turn → List ℕ
-turnLent lent n b body.more = set lent n b
-turnLent lent n b body.done = set lent n b
-turnLent lent n b (body.refused k) = lent
-
 abbrev pub pieceLent : List ℕ → ℕ → List ℕ → escape.Piece → List ℕ
 pieceLent lent code s escape.pending = lent
 pieceLent lent code s (escape.dataByte b) = turnLent lent (length s) b (body.bodyTurn code s b)

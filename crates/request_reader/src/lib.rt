@@ -1,5 +1,5 @@
-// The stepwise reader of requests: one raw byte at a time, the body so far in bytes that the caller lends.
-mod turns;
+// The stepwise reader of requests: one raw byte at a time, or a slice up to its first answer, the body so far in bytes that the caller lends.
+mod bodies;
 
 use escape::Piece;
 use turns::Turn;
@@ -11,6 +11,7 @@ ghost use Rattle.serial_rules.specs.Call.{styleOk};
 ghost use Rattle.serial_rules.specs.Reader.{pieceOutside, pieceInside, starts};
 ghost use Rattle.serial_rules.specs.Escape.{mark, dataByte};
 ghost use Rattle.request_reader.specs.View.{carrierOf, within, fresh, Step-done};
+ghost use Rattle.request_reader.specs.Feed.{Feed-done};
 ghost use Rattle.request_reader.specs.Parts.{standingOf, refusedFrom, restingFrom, goingFrom, Outside-done, Inside-done};
 
 // The serial lead, with the escape layer and marks, or the parallel side, with plain codes and bodies.
@@ -46,6 +47,13 @@ pub enum Answer {
 
 pub struct Stepped {
     pub answer: Answer,
+    pub reader: Reader,
+}
+
+// What a slice of raw bytes gives: its first answer that is not need-more, or need-more where it ends first; the bytes used; the reader.
+pub struct Fed {
+    pub answer: Answer,
+    pub used: usize,
     pub reader: Reader,
 }
 
@@ -89,6 +97,32 @@ impl Reader {
         }
     }
 
+    // Raw bytes, up to the first answer that is not need-more.
+    pub fn feed(self, raw: &[u8], body: &mut [u8; 273]) -> Fed
+        ensures { λ r. ⌜ Feed-done self (now (body .entry)) (now (raw .entry)) r (now (body .exit)) ⌝ }
+    {
+        let mut at = self;
+        let mut i: usize = 0;
+        while i < raw.len() {
+            let step = at.step(raw[i], body);
+            at = step.reader;
+            i += 1;
+            let answer = step.answer;
+            let Answer::More = answer else {
+                return Fed {
+                    answer: answer,
+                    used: i,
+                    reader: at,
+                };
+            };
+        }
+        Fed {
+            answer: Answer::More,
+            used: i,
+            reader: at,
+        }
+    }
+
     // The phase, with the limits tested.
     fn standing(self) -> Phase
         ensures { λ r. ⌜ r ≡ standingOf (self .phase) (within self) ⌝ }
@@ -112,7 +146,7 @@ impl Reader {
     {
         let carrier = self.carrier;
         if style_ok(carrier, self.style) {
-            return self.count < turns::longest_body(self.code);
+            return self.count < bodies::longest_body(self.code);
         }
         false
     }
@@ -175,7 +209,7 @@ impl Reader {
         let style = self.style;
         let code = self.code;
         let count = self.count;
-        let turn = turns::body_turn(code, &body[..count], b);
+        let turn = bodies::body_turn(code, &body[..count], b);
         match turn {
             Turn::Refused(n) => self.refused(n),
             Turn::More => {

@@ -1,11 +1,12 @@
--- The conversions between a reader and its flat record, there and back, and what `tube_read` promises from what a step does.
+-- The conversions between a reader and its flat record, there and back, and what `tube_read` and `tube_feed` promise from what `feed` does.
 use Prim.Native.Nat.{ℕ, zero, suc}
 use native.Mathlib.Omega.{arith}
-use mathlib.Core.Path.{_≡_, refl, sym, ap, subst, _∙_}
+use mathlib.Core.Path.{_≡_, refl, sym, ap, ap₂, subst, _∙_}
 use mathlib.Core.Bool.{Bool, true, false, not}
-use mathlib.Core.List.{List}
+use mathlib.Core.List.{List, [], _∷_}
 use borrow.Author.Tests.{leb-true, ne-eqb}
 use lib.Dec.{eqb, leb}
+use lib.ListN.{length}
 use Rattle.serial_rules.specs.Reader as rules
 use Rattle.serial_rules.proofs.Trip.{and-both}
 use Rattle.request_reader.specs.declared.Carrier.{Carrier}
@@ -16,10 +17,16 @@ use Rattle.request_reader.specs.declared.Reader.{Reader}
 use Rattle.request_reader.specs.declared.Answer.{Answer}
 use Rattle.request_reader.specs.declared.Answer.the-variants.{More, Character, Request, Refused}
 use Rattle.request_reader.specs.declared.Stepped.{Stepped}
-use Rattle.request_reader.specs.View.{carrierOf, viewOf, answerOf, lentAfter, stoppedFrom, Step-done}
+use Rattle.request_reader.specs.declared.Fed.{Fed}
+use Rattle.request_reader.specs.View.{carrierOf, viewOf, answerOf, lentAfter, Step-done}
+use Rattle.request_reader.specs.Read.{Read}
+use Rattle.request_reader.specs.Read as reads
+use Rattle.request_reader.specs.Feed.{told, Feed-done}
+use Rattle.request_reader.proofs.Feed.{one-fed}
 use Rattle.tube.specs.declared.FlatReader.{FlatReader}
 use Rattle.tube.specs.declared.FlatRead.{FlatRead}
-use Rattle.tube.specs.Flat.{carrierAt, phaseAt, carrierNumber, phaseNumber, escapeNumber, readerOf, tagsOk, flatView, flatAnswer, flatOf, flatRead, flatStopped, Flat-done}
+use Rattle.tube.specs.Flat.{carrierAt, phaseAt, carrierNumber, phaseNumber, escapeNumber, readerOf, tagsOk, flatView, flatAnswer, flatOf, flatRead, Flat-done}
+use Rattle.tube.specs.FlatFeed.{FlatReads, stop, took, flatTold, Flat-feed-done}
 
 not-zero : (e : ℕ) → eqb (suc e) 0 ≡ false
 not-zero e = ne-eqb (suc e) 0 (λ h. omega (arith, h))
@@ -97,32 +104,79 @@ refusal-is f (Character b) e = absurd (omega (arith, e))
 refusal-is f (Request style code n) e = absurd (omega (arith, e))
 refusal-is f (Refused n) e = refl
 
-flat-stopped : (f : FlatReader) → tagsOk f ≡ true → flatOf (f .escape) (stoppedFrom (readerOf f)) ≡ flatStopped f
-unfolding tagsOk
-flat-stopped f ok = rw (carrier-same (f .carrier) (and-both (leb (f .carrier) 1) (leb (f .phase) 2) ok .0), escape-same (f .escape))
-
--- a record with its tags in range is stepped
-stepped-as : (f : FlatReader) (lent : List ℕ) (raw : ℕ) {r : Stepped} {left : List ℕ} → tagsOk f ≡ true → Step-done (readerOf f) lent raw r left
-    → Flat-done f lent raw (flatRead (flatOf (f .escape) (r .reader)) (r .answer)) left
-stepped-as f lent raw {r} {left} ok d =
-    let c = carrierOf (carrierAt (f .carrier)) in
-    let g = flatOf (f .escape) (r .reader) in
-    let v : viewOf (readerOf f) lent ≡ flatView f lent = rw ok refl in
+-- a step from the flat record of a reader
+step-flat : (e : ℕ) {r : Reader} {lent left : List ℕ} {x : ℕ} {o : Stepped} → Step-done r lent x o left
+    → Flat-done (flatOf e r) lent x (flatRead (flatOf e (o .reader)) (o .answer)) left
+step-flat e {r} {lent} {left} {x} {o} d =
+    let g = flatOf e (o .reader) in
+    let c = sym (carrier-back (r .carrier)) in
+    let v = sym (flat-view e r lent) in
     record {
-      answer = answer-is g (r .answer) left ∙ d .answer ∙ ap (λ (q : rules.Reader). rules.step c q raw .answer) v;
-      next = ap (λ (x : FlatReader). flatView x left) (reader-is g (r .answer)) ∙ flat-view (f .escape) (r .reader) left ∙ d .next ∙ ap (λ (q : rules.Reader). rules.step c q raw .next) v;
-      bytes = d .bytes ∙ ap (λ (q : rules.Reader). lentAfter c q raw lent) v;
-      kept = λ h. reader-is g (r .answer) ∙ ap (flatOf (f .escape)) (d .kept (v ∙ h)) ∙ flat-back f ok;
-      stops = λ h e. reader-is g (r .answer) ∙ ap (flatOf (f .escape)) (d .stops _ (λ s. h (sym v ∙ s)) (refusal-is g (r .answer) e)) ∙ flat-stopped f ok;
+      answer = answer-is g (o .answer) left ∙ d .answer ∙ ap₂ (λ (k : Carrier) (q : rules.Reader). rules.step (carrierOf k) q x .answer) c v;
+      next = ap (λ (f : FlatReader). flatView f left) (reader-is g (o .answer)) ∙ flat-view e (o .reader) left ∙ d .next ∙ ap₂ (λ (k : Carrier) (q : rules.Reader). rules.step (carrierOf k) q x .next) c v;
+      bytes = d .bytes ∙ ap₂ (λ (k : Carrier) (q : rules.Reader). lentAfter (carrierOf k) q x lent) c v;
+      kept = λ h. reader-is g (o .answer) ∙ ap (flatOf e) (d .kept (v ∙ h));
+      stops = λ h z. reader-is g (o .answer) ∙ ap (flatOf e) (d .stops _ (λ s. h (sym v ∙ s)) (refusal-is g (o .answer) z));
     }
 
-pub stepped : {f g : FlatReader} {p : Reader} {lent left : List ℕ} {raw : ℕ} {r : Stepped} {o : FlatRead} → tagsOk f ≡ true → p ≡ readerOf f → Step-done p lent raw r left
-    → g ≡ flatOf (f .escape) (r .reader) → o ≡ flatRead g (r .answer) → Flat-done f lent raw o left
-stepped {f} {g} {p} {lent} {left} {raw} {r} {o} ok u d k e =
-    let s = subst (λ (q : Reader). Step-done q lent raw r left) u d in
-    rw (e, k) (stepped-as f lent raw ok s)
+-- a chain of steps, each from the flat record of a reader
+chain-flat : (e : ℕ) {r q : Reader} {lent raw end : List ℕ} {gave : List rules.Answer} → Read r lent raw gave q end → FlatReads (flatOf e r) lent raw gave (flatOf e q) end
+chain-flat e reads.stop = stop
+chain-flat e {q = q} {end = end} (reads.took {left = left} {raw = raw} {o = o} {answers = answers} d t) =
+    let g = flatOf e (o .reader) in
+    let rest = subst (λ (f : FlatReader). FlatReads f left raw answers (flatOf e q) end) (sym (reader-is g (o .answer))) (chain-flat e t) in
+    rw (← answer-is g (o .answer) left) (took (step-flat e d) rest)
+
+-- the answers told of a flat result, and need-more
+told-is : (f : FlatReader) (waits : ℕ) (a : Answer) (left : List ℕ) → flatTold waits (flatRead f a) left ≡ told waits a left
+told-is f waits More left = refl
+told-is f waits (Character b) left = refl
+told-is f waits (Request style code n) left = refl
+told-is f waits (Refused n) left = refl
+
+more-is : (f : FlatReader) (a : Answer) → flatRead f a .kind ≡ 0 → a ≡ More
+more-is f More e = refl
+more-is f (Character b) e = absurd (omega (arith, e))
+more-is f (Request style code n) e = absurd (omega (arith, e))
+more-is f (Refused n) e = absurd (omega (arith, e))
+
+-- what `feed` gives, flat
+feed-flat : (e : ℕ) {p : Reader} {lent left raw : List ℕ} {r : Fed} → Feed-done p lent raw r left
+    → Flat-feed-done (flatOf e p) lent raw (record { read = flatRead (flatOf e (r .reader)) (r .answer); used = r .used }) left
+feed-flat e {left = left} {r = r} d =
+    let g = flatOf e (r .reader) in
+    let t = told-is g (d .waits) (r .answer) left in
+    record {
+      waits = d .waits;
+      used = d .used ∙ ap length (sym t);
+      within = d .within;
+      steps = rw (t, reader-is g (r .answer)) (chain-flat e (d .steps));
+      ended = λ z. d .ended (more-is g (r .answer) z);
+    }
+
+-- a record with its tags in range is that of its reader
+own : (f : FlatReader) {p : Reader} → tagsOk f ≡ true → p ≡ readerOf f → flatOf (f .escape) p ≡ f
+own f ok u = ap (flatOf (f .escape)) u ∙ flat-back f ok
+
+module _ {f g : FlatReader} {p : Reader} {lent left : List ℕ} {r : Fed} {o : FlatRead} (ok : tagsOk f ≡ true) (u : p ≡ readerOf f)
+    (k : g ≡ flatOf (f .escape) (r .reader)) (e : o ≡ flatRead g (r .answer)) where
+  pub read-byte : {x : ℕ} → Feed-done p lent (x ∷ []) r left → Flat-done f lent x o left
+  read-byte d = rw (e, k) (rw (own f ok u) at (step-flat (f .escape) (one-fed d)))
+
+  pub read-slice : {raw : List ℕ} → Feed-done p lent raw r left → Flat-feed-done f lent raw (record { read = o; used = r .used }) left
+  read-slice d = rw (e, k) (rw (own f ok u) at (feed-flat (f .escape) d))
 
 -- one with a tag out of range is refused
 pub out-of-range : {f : FlatReader} {lent : List ℕ} {raw : ℕ} {o : FlatRead} → tagsOk f ≡ false → o ≡ flatRead f (Refused 7) → Flat-done f lent raw o lent
 unfolding rules.step lentAfter
 out-of-range out e = rw e (record { answer = rw out; next = rw out; bytes = rw out; kept = λ h. refl; stops = λ h e. absurd (h (rw out)) })
+
+pub slice-out-of-range : {f : FlatReader} {lent raw : List ℕ} {o : FlatRead} → tagsOk f ≡ false → (length raw ≡ 0 → ⊥) → o ≡ flatRead f (Refused 7)
+    → Flat-feed-done f lent raw (record { read = o; used = 1 }) lent
+slice-out-of-range {raw = []} out some e = absurd (some refl)
+slice-out-of-range {raw = x ∷ raw} out some e =
+    rw e (record { waits = 0; used = refl; within = omega arith; steps = took (out-of-range out refl) stop; ended = λ z. absurd (omega (arith, z)) })
+
+-- an empty slice needs more
+pub nothing-fed : {f : FlatReader} {lent raw : List ℕ} {o : FlatRead} → length raw ≡ 0 → o ≡ flatRead f More → Flat-feed-done f lent raw (record { read = o; used = 0 }) lent
+nothing-fed none e = rw e (record { waits = 0; used = refl; within = omega arith; steps = stop; ended = λ z. sym none })

@@ -1,6 +1,7 @@
 // The library's other exports: the player, the text, and the requests as flat records. The chip's own are in `board`, which is linked with it.
 ghost use mathlib.Core.Path.{_≡_};
 ghost use Rattle.tube.specs.Flat.{carrierAt, phaseAt, carrierNumber, phaseNumber, readerOf, escapeNumber, flatOf, flatRead, flatPlain, tagsOk, flatFresh, Flat-done};
+ghost use Rattle.tube.specs.FlatFeed.{Flat-feed-done};
 ghost use Rattle.tube.specs.FlatCall.{callAt, callKnown, flatWritten, Flat-request-done};
 ghost use Rattle.request_reader.specs.View.{carrierOf};
 ghost use Rattle.request_writer.specs.Promise.{Request-done};
@@ -56,6 +57,13 @@ pub struct FlatRead {
     pub code: u8,
 }
 
+// What a slice of raw bytes gives: its first answer that is not need-more, or need-more where it ends first, and the bytes used.
+#[repr(C)]
+pub struct FlatFed {
+    pub read: FlatRead,
+    pub used: usize,
+}
+
 // A fresh reader; it is also what resets a stopped one.
 #[no_mangle]
 pub extern "C" fn tube_reader(carrier: u8) -> FlatReader
@@ -71,18 +79,45 @@ pub extern "C" fn tube_reader(carrier: u8) -> FlatReader
     }
 }
 
-// One raw byte: see `request_reader::Reader::step`.
+// One raw byte, as a slice: so `Reader::feed` stays the one caller of `Reader::step`, which is what makes it fast (docs/DECISIONS.md, 'Speed').
 #[no_mangle]
 pub extern "C" fn tube_read(reader: FlatReader, raw: u8, body: &mut [u8; 273]) -> FlatRead
     ensures { λ r. ⌜ Flat-done reader (now (body .entry)) raw r (now (body .exit)) ⌝ }
 {
     if has_tags(reader) {
-        let step = unflattened(reader).step(raw, body);
-        let answer = step.answer;
-        let next = step.reader;
+        let one = [raw];
+        let fed = unflattened(reader).feed(&one, body);
+        let answer = fed.answer;
+        let next = fed.reader;
         return flat_read(flattened(reader.escape, next), answer);
     }
     flat_read(reader, Answer::Refused(7))
+}
+
+// Raw bytes up to the first answer that is not need-more: see `request_reader::Reader::feed`.
+#[no_mangle]
+pub extern "C" fn tube_feed(reader: FlatReader, raw: &[u8], body: &mut [u8; 273]) -> FlatFed
+    ensures { λ r. ⌜ Flat-feed-done reader (now (body .entry)) (now (raw .entry)) r (now (body .exit)) ⌝ }
+{
+    if has_tags(reader) {
+        let fed = unflattened(reader).feed(raw, body);
+        let answer = fed.answer;
+        let next = fed.reader;
+        return FlatFed {
+            read: flat_read(flattened(reader.escape, next), answer),
+            used: fed.used,
+        };
+    }
+    if raw.len() == 0 {
+        return FlatFed {
+            read: flat_read(reader, Answer::More),
+            used: 0,
+        };
+    }
+    FlatFed {
+        read: flat_read(reader, Answer::Refused(7)),
+        used: 1,
+    }
 }
 
 // The flat result of an answer.

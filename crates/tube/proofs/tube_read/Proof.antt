@@ -1,6 +1,6 @@
--- With the tags in range this is a step of the reader; with one out of range the refusal of a stopped reader.
+-- With the tags in range this is a slice of one byte, which is a step of the reader; with one out of range the refusal of a stopped reader.
 use mathlib.Core.Path.{sym, _∙_}
-use Rattle.tube.proofs.Laws.{stepped, out-of-range}
+use Rattle.tube.proofs.Laws.{read-byte, out-of-range}
 use borrow.Author.Needs.{needs}
 use Rattle.tube.proofs.tube_read.Statement.{statement}
 use Rattle.tube.proofs.tube_read.Tie as tie
@@ -11,8 +11,11 @@ has-tags-requires c κs = search needs
 unflattened-requires : tie.Need-unflattened-requires
 unflattened-requires c κs = search needs
 
-step-requires : tie.Need-step-requires
-step-requires c κs = search needs
+slice-aggregate-feed : tie.Need-slice-aggregate-feed
+slice-aggregate-feed c = search needs
+
+feed-requires : tie.Need-feed-requires
+feed-requires c κs = search needs
 
 flattened-requires : tie.Need-flattened-requires
 flattened-requires c κs = search needs
@@ -22,8 +25,10 @@ flat-read-requires c κs = search needs
 
 returns : tie.Need-returns
 returns c =
-    stepped (sym (c .before .before .before .before .before .before .before .has-tags .ensures) ∙ c .before .before .before .before .before .before .if1 .taken)
-    (c .before .before .before .before .before .unflattened .ensures) (c .before .before .before .step .ensures) (c .before .flattened .ensures) (c .flat-read .ensures)
+    let q = c .before .before .before in
+    let s = q .before .before .before in
+    read-byte (sym (s .before .before .has-tags .ensures) ∙ s .before .if1 .taken) (s .unflattened .ensures) (c .before .flattened .ensures) (c .flat-read .ensures)
+    (q .feed .ensures)
 
 flat-read-requires-2 : tie.Need-flat-read-requires-2
 flat-read-requires-2 c κs = search needs
@@ -37,7 +42,8 @@ tube-read-spec =
     (tie.spec
     has-tags-requires
     unflattened-requires
-    step-requires
+    slice-aggregate-feed
+    feed-requires
     flattened-requires
     flat-read-requires
     returns

@@ -4,7 +4,7 @@ use Rattle.request_reader.proofs.Steps.{within-room, data-refused, data
 use lib.Seq.{length-take-le}
 use native.Mathlib.Omega.{arith}
 use denote.Ref.{now}
-use Rattle.request_reader.specs.Parts.{turnOf}
+use Rattle.turns.specs.Turns.{turnOf}
 use mathlib.Core.Path.{sym, ap, _∙_}
 use borrow.Author.Needs.{needs}
 use Rattle.request_reader.proofs.Reader.data_step.Statement.{statement}

@@ -4,8 +4,8 @@ use mathlib.Core.Path.{sym}
 use native.Mathlib.Omega.{arith}
 use denote.Ref.{now}
 use borrow.Author.Needs.{needs}
-use Rattle.request_reader.proofs.turns.name_ended.Statement.{statement}
-use Rattle.request_reader.proofs.turns.name_ended.Tie as tie
+use Rattle.request_reader.proofs.bodies.name_ended.Statement.{statement}
+use Rattle.request_reader.proofs.bodies.name_ended.Tie as tie
 
 returns : tie.Need-returns
 returns c = let a = c .before .args in sym (ended-none (now (a .s)) (c .if1 .taken))

@@ -5,8 +5,8 @@ use native.Mathlib.Omega.{arith}
 use denote.Ref.{now}
 use borrow.Author.Tests.{eq-eqb, ne-eqb}
 use borrow.Author.Needs.{needs}
-use Rattle.request_reader.proofs.turns.find_turn.Statement.{statement}
-use Rattle.request_reader.proofs.turns.find_turn.Tie as tie
+use Rattle.request_reader.proofs.bodies.find_turn.Statement.{statement}
+use Rattle.request_reader.proofs.bodies.find_turn.Tie as tie
 
 returns : tie.Need-returns
 returns c = let a = c .before .before .args in simp (find-none (now (a .s)) (a .b) (c .if1 .taken))

@@ -1,7 +1,7 @@
 -- The tests are the rule's: the return may be the 256th byte, any other byte may not.
 use borrow.Author.Tests.{le-ltb, lt-ltb, le-leb, lt-leb, eq-eqb, ne-eqb}
-use Rattle.request_reader.proofs.turns.name_turn.Statement.{statement}
-use Rattle.request_reader.proofs.turns.name_turn.Tie as tie
+use Rattle.request_reader.proofs.bodies.name_turn.Statement.{statement}
+use Rattle.request_reader.proofs.bodies.name_turn.Tie as tie
 
 returns : tie.Need-returns
 returns c = simp (eq-eqb _ _ (c .before .if1 .taken), le-leb _ _ (c .if2 .taken))

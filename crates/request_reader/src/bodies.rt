@@ -1,41 +1,12 @@
 // One data byte b of a request's body, against the bytes s, or n bytes, before it.
 use crate::Reader;
 use strings::Text;
+use turns::Turn;
 ghost use mathlib.Core.Path.{_≡_};
-ghost use Rattle.serial_rules.specs.Body.{stringTurn, fixedTurn, checkedTurn, wordTurn, findTurn, nameTurn, ended, fileTurn, bodyTurn, longestBody};
-ghost use Rattle.request_reader.specs.Parts.{turnOf};
+ghost use Rattle.serial_rules.specs.Body.{checkedTurn, wordTurn, findTurn, nameTurn, ended, fileTurn, bodyTurn, longestBody};
+ghost use Rattle.turns.specs.Turns.{turnOf};
 
-// What the byte does to the body.
-pub enum Turn {
-    More,
-    Done,
-    Refused(u8),
-}
-
-// A byte of a string that ends the body.
-fn string_turn(n: usize, b: u8) -> Turn
-    ensures { λ r. ⌜ turnOf r ≡ stringTurn n b ⌝ }
-{
-    if b == Text::RETURN {
-        return Turn::Done;
-    }
-    if n < Text::LIMIT {
-        return Turn::More;
-    }
-    Turn::Refused(6)
-}
-
-// A byte of a body whose last byte has the index `last`.
-fn fixed_turn(n: usize, last: usize) -> Turn
-    ensures { λ r. ⌜ turnOf r ≡ fixedTurn n last ⌝ }
-{
-    if n < last {
-        return Turn::More;
-    }
-    Turn::Done
-}
-
-// The same, where the last byte has to pass a test.
+// A byte of a body whose last byte has the index `last` and has to pass a test.
 fn checked_turn(n: usize, last: usize, ok: bool) -> Turn
     ensures { λ r. ⌜ turnOf r ≡ checkedTurn n last ok ⌝ }
 {
@@ -63,7 +34,7 @@ fn word_turn(s: &[u8], b: u8) -> Turn
         return Turn::More;
     }
     let last = s[1] as usize;
-    fixed_turn(n - 2, last)
+    turns::fixed_turn(n - 2, last)
 }
 
 // OSFIND: 0 and Y, or A and a string.
@@ -77,7 +48,7 @@ fn find_turn(s: &[u8], b: u8) -> Turn
     if s[0] == 0 {
         return Turn::Done;
     }
-    string_turn(n - 1, b)
+    turns::string_turn(n - 1, b)
 }
 
 // A byte of a string that another field follows.
@@ -127,17 +98,17 @@ pub fn body_turn(code: u8, s: &[u8], b: u8) -> Turn
 {
     let n = s.len();
     match code {
-        0x02 => string_turn(n, b),
+        0x02 => turns::string_turn(n, b),
         0x04 => checked_turn(n, 1, b < 0x80),
         0x06 => checked_turn(n, 2, 0x80 <= b),
         0x08 => word_turn(s, b),
-        0x0A => fixed_turn(n, 4),
-        0x0C => fixed_turn(n, 5),
-        0x0E => fixed_turn(n, 0),
-        0x10 => fixed_turn(n, 1),
+        0x0A => turns::fixed_turn(n, 4),
+        0x0C => turns::fixed_turn(n, 5),
+        0x0E => turns::fixed_turn(n, 0),
+        0x10 => turns::fixed_turn(n, 1),
         0x12 => find_turn(s, b),
         0x14 => file_turn(s, b),
-        0x16 => fixed_turn(n, 13),
+        0x16 => turns::fixed_turn(n, 13),
         _ => Turn::Refused(4),
     }
 }

@@ -2,8 +2,8 @@
 use Rattle.serial_rules.specs.Body.{bodyTurn}
 use borrow.Author.Tests.{ne-eqb}
 use borrow.Author.Needs.{needs}
-use Rattle.request_reader.proofs.turns.body_turn.Statement.{statement}
-use Rattle.request_reader.proofs.turns.body_turn.Tie as tie
+use Rattle.request_reader.proofs.bodies.body_turn.Statement.{statement}
+use Rattle.request_reader.proofs.bodies.body_turn.Tie as tie
 
 string-turn-requires : tie.Need-string-turn-requires
 string-turn-requires c κs = search needs

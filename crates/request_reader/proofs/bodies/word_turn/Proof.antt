@@ -6,8 +6,8 @@ use native.Mathlib.Omega.{arith}
 use denote.Ref.{now}
 use borrow.Author.Tests.{eq-eqb, ne-eqb}
 use borrow.Author.Needs.{needs}
-use Rattle.request_reader.proofs.turns.word_turn.Statement.{statement}
-use Rattle.request_reader.proofs.turns.word_turn.Tie as tie
+use Rattle.request_reader.proofs.bodies.word_turn.Statement.{statement}
+use Rattle.request_reader.proofs.bodies.word_turn.Tie as tie
 
 returns : tie.Need-returns
 returns c = let a = c .before .before .before .args in simp (word-none (now (a .s)) (a .b) (c .before .if1 .taken), eq-eqb _ _ (c .if2 .taken))

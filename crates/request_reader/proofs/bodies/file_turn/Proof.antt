@@ -5,8 +5,8 @@ use mathlib.Core.Path.{sym, ap, _∙_}
 use denote.Ref.{now}
 use borrow.Author.Tests.{le-ltb, lt-ltb}
 use borrow.Author.Needs.{needs}
-use Rattle.request_reader.proofs.turns.file_turn.Statement.{statement}
-use Rattle.request_reader.proofs.turns.file_turn.Tie as tie
+use Rattle.request_reader.proofs.bodies.file_turn.Statement.{statement}
+use Rattle.request_reader.proofs.bodies.file_turn.Tie as tie
 
 returns : tie.Need-returns
 returns c = simp (lt-ltb _ _ (c .if1 .taken))

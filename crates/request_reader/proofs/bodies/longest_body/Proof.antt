@@ -1,8 +1,8 @@
 -- Each arm is the rule at that arm's code; a code of no arm fails all the rule's tests.
 use Rattle.serial_rules.specs.Body.{longestBody}
 use borrow.Author.Tests.{ne-eqb}
-use Rattle.request_reader.proofs.turns.longest_body.Statement.{statement}
-use Rattle.request_reader.proofs.turns.longest_body.Tie as tie
+use Rattle.request_reader.proofs.bodies.longest_body.Statement.{statement}
+use Rattle.request_reader.proofs.bodies.longest_body.Tie as tie
 
 returns : tie.Need-returns
 unfolding longestBody

@@ -1,7 +1,7 @@
 -- The tests are the rule's: a byte before the last is taken as it is, the last has to pass its test.
 use borrow.Author.Tests.{le-ltb, lt-ltb}
-use Rattle.request_reader.proofs.turns.checked_turn.Statement.{statement}
-use Rattle.request_reader.proofs.turns.checked_turn.Tie as tie
+use Rattle.request_reader.proofs.bodies.checked_turn.Statement.{statement}
+use Rattle.request_reader.proofs.bodies.checked_turn.Tie as tie
 
 returns : tie.Need-returns
 returns c = simp (lt-ltb _ _ (c .if1 .taken))
