@@ -1,9 +1,9 @@
 -- Actions move no reply byte: the signs of a stream of parts, with its actions left out and their reports put back.
 use Prim.Native.Nat.{ℕ}
 use mathlib.Core.Path.{_≡_, refl, sym, ap, _∙_}
-use mathlib.Core.Bool.{true, _&&_}
+use mathlib.Core.Bool.{true}
 use mathlib.Core.List.{List, [], _∷_, _++_, map, append-assoc}
-use Rattle.serial_rules.specs.Link.{Report, needMore, character, within, Frame, idleFrame, Standing, halted, holds, meets, Link, stopped, live, linkAt, fresh, failure}
+use Rattle.serial_rules.specs.Link.{needMore, within, Frame, idleFrame, Standing, halted, holds, meets, Link, stopped, live, linkAt, fresh, failure}
 use Rattle.serial_rules.specs.Session.{Input, Told, report, toldBy, nextBy, tells, linkAfter, Sign, token, signs, layerAfter, saidBy, standsBy, says, standsAfter, movers, woven, Part, byte, begun, state, event, address, error, good, allGood, inputsOf, inputs, signOf, fill, behind, spread, withoutActions, rest, Actions-pass, Error-ends}
 use Rattle.serial_rules.proofs.Trip.{and-both}
 use Rattle.serial_rules.proofs.Session.{layers-told, layers-after, halted-stays, movers-move, weave}

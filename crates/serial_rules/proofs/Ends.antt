@@ -1,12 +1,12 @@
 -- Bytes that belong together and are complete at their last byte, neither earlier nor later: so many of any bytes, a line, a text.
 use Prim.Native.Nat.{ℕ, suc, _+_, _-_, _≤_, _<_}
-use mathlib.Core.Path.{_≡_, refl, sym, ap, _∙_}
-use mathlib.Core.Bool.{Bool, true, false, not, _||_, true≢false}
+use mathlib.Core.Path.{_≡_, refl}
+use mathlib.Core.Bool.{Bool, true, false, _||_, true≢false}
 use mathlib.Core.List.{List, [], _∷_, _++_}
 use native.Mathlib.Omega.{arith}
 use lib.Dec.{eqb}
 use lib.ListN.{length}
-use borrow.Author.Tests.{ne-eqb, lt-ltb, le-ltb, eqb-true}
+use borrow.Author.Tests.{ne-eqb, lt-ltb, le-ltb}
 use Rattle.serial_rules.specs.Call.{return, hasReturn}
 use Rattle.serial_rules.specs.Body.{more, done}
 use Rattle.serial_rules.specs.Reply.{Shape, fixed, line, text, shapeTurn}

@@ -11,3 +11,4 @@ pub mod Parts
 pub mod Actions
 pub mod Replies
 pub mod Normal
+pub mod Finishing

@@ -1,7 +1,7 @@
 -- Reading then writing gives the normal bytes: a reply that was read fits its kind, and its bytes are those read, in their normal form.
 use Prim.Native.Nat.{ℕ, suc, _+_, _-_, _≤_, _<_}
 use mathlib.Core.Path.{_≡_, refl, sym, ap, subst, _∙_}
-use mathlib.Core.Bool.{Bool, true, false, cond, not, _&&_, _||_}
+use mathlib.Core.Bool.{Bool, true, false, cond, _||_}
 use mathlib.Core.List.{List, [], _∷_, _++_}
 use native.Mathlib.Omega.{arith}
 use lib.Dec.{eqb, ltb}
@@ -10,7 +10,7 @@ use lib.Seq.{take-at, drop-at, getD-at, length-take-le}
 use borrow.Author.Tests.{eq-eqb, ltb-true, ltb-false, eqb-true, eqb-false}
 use Rattle.serial_rules.specs.Fields.{at}
 use Rattle.serial_rules.specs.Call.{return, hasReturn}
-use Rattle.serial_rules.specs.Body.{Turn, more, done, refused, stringTurn}
+use Rattle.serial_rules.specs.Body.{more, done, refused, stringTurn}
 use Rattle.serial_rules.specs.Reply.{Kind, osrdch, oscli, osbyteLow, osbyteHigh, osword, osword0, osargs, osbget, osbput, osfindClose, osfindOpen, osfile, osgbpb, fixed, line, shapeOf, shapeTurn, longest, replyBytes, replyOk, flag, replyRead, normalOf}
 use Rattle.serial_rules.proofs.Ends.{Ends, last, next, positive}
 use Rattle.serial_rules.proofs.Replies.{second-at}

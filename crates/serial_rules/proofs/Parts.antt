@@ -8,7 +8,7 @@ use lib.Dec.{eqb, leb}
 use lib.ListN.{length, length-append}
 use borrow.Author.Tests.{ne-eqb, eqb-true, leb-true, not-true}
 use Rattle.serial_rules.specs.Escape.{escape, escaped}
-use Rattle.serial_rules.specs.Body.{Turn, more, done}
+use Rattle.serial_rules.specs.Body.{more, done}
 use Rattle.serial_rules.specs.Marks.{bit, inwardClass, errorMark, escapeMark, eventMark, addressMark}
 use Rattle.serial_rules.specs.Reply.{text, shapeTurn}
 use Rattle.serial_rules.specs.Link.{Action, failing, signal, place, ownShape, Doing, none, own, layer, Token, within, datum, acted, failed, escapeState, Seen, seen, failure, failureOf, finish, ownByte, dataSeen, opens, markOutside, look}

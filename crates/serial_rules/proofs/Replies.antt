@@ -2,19 +2,19 @@
 -- gives it there; and what its bytes mean to that kind is the reply.
 use Prim.Native.Nat.{ℕ, suc, _+_, _-_, _≤_}
 use mathlib.Core.Path.{_≡_, refl, sym, ap, subst, _∙_}
-use mathlib.Core.Bool.{Bool, true, false, cond, not, _&&_, _||_, true≢false}
+use mathlib.Core.Bool.{Bool, true, false, not, _&&_, _||_}
 use mathlib.Core.List.{List, [], _∷_, _++_, map, append-assoc, append-nil}
 use native.Mathlib.Omega.{arith}
 use lib.Dec.{eqb}
-use lib.ListN.{length, take, drop, length-append}
+use lib.ListN.{length, length-append}
 use lib.Seq.{take-at, getD-at}
 use borrow.Author.Tests.{eq-eqb, ne-eqb, eqb-true, not-true}
 use Rattle.serial_rules.specs.Escape.{escaped}
 use Rattle.serial_rules.specs.Marks.{bit}
 use Rattle.serial_rules.specs.Fields.{at}
 use Rattle.serial_rules.specs.Call.{return, hasReturn}
-use Rattle.serial_rules.specs.Body.{Turn, more, done}
-use Rattle.serial_rules.specs.Reply.{Kind, osrdch, oscli, osbyteLow, osbyteHigh, osword, osword0, osargs, osbget, osbput, osfindClose, osfindOpen, osfile, osgbpb, fixed, line, shapeOf, shapeTurn, longest, Reply, carryA, ack, byte, carryYX, block, escapedLine, readLine, aBlock, plain, blockCarryA, carryByte, ackByte, replyBytes, formOf, formIn, blockIn, hasLine, replyOk, Given, given, flag, replyRead}
+use Rattle.serial_rules.specs.Body.{more, done}
+use Rattle.serial_rules.specs.Reply.{Kind, osrdch, oscli, osbyteLow, osbyteHigh, osword, osword0, osargs, osbget, osbput, osfindClose, osfindOpen, osfile, osgbpb, fixed, line, shapeOf, shapeTurn, longest, Reply, carryA, ack, byte, carryYX, block, escapedLine, readLine, aBlock, plain, blockCarryA, carryByte, ackByte, replyBytes, formOf, formIn, blockIn, hasLine, replyOk, given, flag, replyRead}
 use Rattle.serial_rules.specs.Link.{needMore, reply, none, datum, Frame, frame, waiting, holds, Met, replyTurned, meets, live, fresh, linkAt, begun, complete, begins, enters, begin}
 use Rattle.serial_rules.specs.Session.{Input, raw, Told, report, tells, token, signs, says, fill, behind, rest}
 use Rattle.serial_rules.proofs.Trip.{and-both}

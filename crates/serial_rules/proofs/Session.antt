@@ -1,9 +1,8 @@
 -- What a raw byte is to the reply does not depend on what waits. So the link on any inputs is the reply alone on their signs, and the
 -- signs that leave the reply at its place can be left out and their reports put back.
-use Prim.Native.Nat.{ℕ}
-use mathlib.Core.Path.{_≡_, refl, sym, ap, _∙_}
-use mathlib.Core.List.{List, [], _∷_, _++_}
-use Rattle.serial_rules.specs.Link.{Report, needMore, refusal, Layer, Token, within, datum, acted, failed, bad, look, Frame, Standing, halted, holds, meets, linkAt, step, Begun, denied, enters, begin}
+use mathlib.Core.Path.{_≡_, refl, ap}
+use mathlib.Core.List.{List, [], _∷_}
+use Rattle.serial_rules.specs.Link.{needMore, refusal, Layer, within, datum, acted, failed, bad, look, Standing, halted, holds, meets, linkAt, step, denied, enters, begin}
 use Rattle.serial_rules.specs.Session.{Input, raw, call, Told, report, answer, tells, linkAfter, Sign, token, began, signs, layerAfter, standsBy, says, standsAfter, movers, woven}
 
 pub layers-told : (l : Layer) (S : Standing) (s : List Input) → tells (linkAt l S) s ≡ says S (signs l s)

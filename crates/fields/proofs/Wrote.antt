@@ -1,0 +1,20 @@
+-- Where a writer's answer is 0, the bytes that it counts are the encoding.
+use Prim.Native.Nat.{ℕ}
+use mathlib.Core.Path.{_≡_, refl, sym, ap, _∙_}
+use mathlib.Core.Bool.{cond}
+use mathlib.Core.List.{List, _++_}
+use lib.Dec.{eqb}
+use lib.ListN.{length, take, drop}
+use lib.Seq.{take-at}
+use Rattle.fields.specs.declared.Written.{Written}
+use Rattle.fields.specs.Promise.{number, count, Writer-done}
+
+abbrev pub wrote : Written → List ℕ → List ℕ
+wrote r left = take (count r) left
+
+pub wrote-is : {n : ℕ} {encoding out left : List ℕ} {r : Written} → Writer-done n encoding out r left → number r ≡ 0 → wrote r left ≡ encoding
+wrote-is {n = n} {encoding = e} {out = out} d h =
+    let z : n ≡ 0 = sym (d .answer) ∙ h in
+    let k = d .written ∙ ap (λ (m : ℕ). cond (eqb m 0) (length e) 0) z in
+    let l = d .bytes ∙ ap (λ (m : ℕ). cond (eqb m 0) (e ++ drop (length e) out) out) z in
+    rw (k, l) (take-at e (drop (length e) out) (length e) refl)
