@@ -1,13 +1,12 @@
 -- Round trips of the program's own writer and reader, on both carriers and for every call.
 use Prim.Native.Nat.{ℕ, _+_, _≤_}
 use native.Mathlib.Omega.{arith}
-use mathlib.Core.Path.{_≡_, refl, sym, ap, ap₂, subst, _∙_}
+use mathlib.Core.Path.{_≡_, refl, sym, ap₂, subst, _∙_}
 use mathlib.Core.Bool.{Bool, true, false, cond, not, _&&_}
 use mathlib.Core.List.{List, _++_}
 use borrow.Author.Tests.{ltb-false, le-ltb}
-use lib.Dec.{eqb, ltb}
-use lib.ListN.{length, take, drop}
-use lib.Seq.{take-at}
+use lib.Dec.{ltb}
+use lib.ListN.{length, take}
 use Rattle.serial_rules.specs.Call as rule
 use Rattle.serial_rules.specs.Call.{codeOf, bodyOf, styleOk, callOk, encodingOf, writerNumber, stringLimit}
 use Rattle.serial_rules.specs.Fields.{fieldsOf, fields}
@@ -17,9 +16,11 @@ use Rattle.serial_rules.proofs.Trip.{All, and-both}
 use Rattle.serial_rules.proofs.Fields.{fields-back}
 use Rattle.serial_rules.proofs.Standing.{finished-good, raw-encoding}
 use Rattle.request_writer.specs.declared.Call.{Call}
-use Rattle.request_writer.specs.declared.Written.{Written}
+use Rattle.fields.specs.declared.Written.{Written}
+use Rattle.fields.specs.Promise.{number, count}
+use Rattle.fields.proofs.Laws as writer
 use Rattle.request_writer.specs.Calls.{callOf}
-use Rattle.request_writer.specs.Promise.{Request-done, number, count}
+use Rattle.request_writer.specs.Promise.{Request-done}
 use Rattle.request_reader.specs.declared.Carrier.{Carrier}
 use Rattle.request_reader.specs.declared.Reader.{Reader}
 use Rattle.request_reader.specs.declared.Stepped.{Stepped}
@@ -55,14 +56,7 @@ accepted carrier style call b t room short s ok h = simp (le-ltb _ _ short, s, o
 abbrev pub wrote : Written → List ℕ → List ℕ
 wrote r left = take (count r) left
 
-module _ (k : Carrier) {style : ℕ} {call : Call} {b t out left : List ℕ} {r : Written} where
-  wrote-is : Request-done (carrierOf k) style call b t out r left → number r ≡ 0 → wrote r left ≡ encodingOf (carrierOf k) style (callOf call) b t
-  wrote-is d e =
-      let whole = encodingOf (carrierOf k) style (callOf call) b t in
-      let n : count r ≡ length whole = d .written ∙ ap (λ (m : ℕ). cond (eqb m 0) (length whole) 0) e in
-      let l : left ≡ whole ++ drop (length whole) out = d .bytes ∙ ap (λ (m : ℕ). cond (eqb m 0) (whole ++ drop (length whole) out) out) e in
-      rw (n, l) (take-at whole (drop (length whole) out) (length whole) refl)
-
+module _ (k : Carrier) (style : ℕ) (call : Call) (b t : List ℕ) {out left : List ℕ} {r : Written} where
   -- Writing then reading. Whatever the writer wrote and whatever follows it, a fresh reader needs more until the last byte written, which
   -- finishes that request; and the call, the block and the string come out of its body.
   pub written-read : {lent end rest : List ℕ} {q : Reader} {gave : List Answer}
@@ -72,7 +66,7 @@ module _ (k : Carrier) {style : ℕ} {call : Call} {b t out left : List ℕ} {r 
       × (fieldsOf (codeOf (callOf call)) (bodyOf (callOf call) b t) ≡ fields (callOf call) b t)
   written-read {lent} {end} {rest} {q} {gave} d e reads =
       let p = passed (carrierOf k) style (callOf call) b t (length out) (sym (d .answer) ∙ e) in
-      let w = wrote-is d e in
+      let w = writer.wrote d e in
       let x = reads-request k style (callOf call) b t rest (p .style-ok) (p .fields-ok) (p .short)
       (subst (λ (l : List ℕ). Read (fresh k) lent (l ++ rest) gave q end) w reads) in
       (rw w (x .0), rw w (x .1), fields-back (callOf call) b t (p .fields-ok))
@@ -81,11 +75,11 @@ module _ (k : Carrier) {style : ℕ} {call : Call} {b t out left : List ℕ} {r 
 -- it, and what the writer writes are the raw bytes of that request.
 pub read-written : {k : Carrier} {lent raw end left : List ℕ} {x : ℕ} {gave : List Answer} {q : Reader} {o : Stepped} {style code : ℕ} {body : List ℕ}
     → All (λ (b : ℕ). b ≤ 255) raw → x ≤ 255 → Read (fresh k) lent raw gave q end → Step-done q end x o left → answerOf (o .answer) left ≡ request style code body
-    → {call : Call} {out after : List ℕ} {r : Written} → callOf call ≡ fieldsOf code body .call
+    → (call : Call) {out after : List ℕ} {r : Written} → callOf call ≡ fieldsOf code body .call
     → Request-done (carrierOf k) style call (fieldsOf code body .block) (fieldsOf code body .text) out r after
     → length (rawOf (carrierOf k) (request style code body)) ≤ length out
     → (number r ≡ 0) × (wrote r after ≡ rawOf (carrierOf k) (request style code body))
-read-written {k = k} {raw = raw} {x = x} {style = style} {code = code} {body = body} bytes h t d e {call = call} {out = out} {r = r} is w room =
+read-written {k = k} {raw = raw} {x = x} {style = style} {code = code} {body = body} bytes h t d e call {out = out} {r = r} is w room =
     let a = as-ruled t in
     let at : step (carrierOf k) (readerAfter (carrierOf k) (outside false) raw) x .answer ≡ request style code body =
     sym (ap₂ (λ (c : Carrier) (v : Ruled). step (carrierOf c) v x .answer) (a .carrier) (a .left)) ∙ sym (d .answer) ∙ e in
@@ -95,4 +89,4 @@ read-written {k = k} {raw = raw} {x = x} {style = style} {code = code} {body = b
     let fits : length (encodingOf (carrierOf k) style (callOf call) (f .block) (f .text)) ≤ length out = rw is (rw enc at room) in
     let zero : number r ≡ 0 =
     w .answer ∙ accepted (carrierOf k) style (callOf call) (f .block) (f .text) (length out) (g .fields-ok .short) (g .style-ok) (rw is (g .fields-ok .ok)) fits in
-    (zero, wrote-is k w zero ∙ rw is (sym enc))
+    (zero, writer.wrote w zero ∙ rw is (sym enc))
