@@ -1,12 +1,13 @@
--- Laws of the field writers: data bytes on either carrier, one field after another, what the two loops pass, and what the writer promises.
+-- Laws of the field writers: data bytes on either carrier, one field after another, what the three loops pass, and what the writer promises.
 use Prim.Native.Nat.{ℕ, suc, _+_, _-_, _≤_, _<_}
+use native.Mathlib.Nat.{zero-add}
 use native.Mathlib.Numerals.{add-one}
 use native.Mathlib.Omega.{arith}
 use mathlib.Core.Path.{_≡_, refl, sym, ap, _∙_}
-use mathlib.Core.Bool.{Bool, true, false, cond}
+use mathlib.Core.Bool.{Bool, true, false, cond, _||_, or-assoc, or-false, true≢false}
 use mathlib.Core.List.{List, [], _∷_, _++_, append-assoc}
 use borrow.Author.Needs.{needs}
-use borrow.Author.Tests.{lt-ltb, le-ltb}
+use borrow.Author.Tests.{lt-ltb, le-ltb, ltb-false}
 use lib.Dec.{eqb, ltb}
 use lib.ListN.{length, take, drop, getD, set, length-append, drop-of-length-le}
 use lib.Seq.{drop-cons, take-suc, set-at}
@@ -17,7 +18,7 @@ use Rattle.escape.specs.Put.{over, Put}
 use Rattle.escape.proofs.Laws.{put-as, put-tail, tail-room}
 use Rattle.fields.specs.declared.Written.the-variants.{Done, NoRoom}
 use Rattle.fields.specs.Carriers.{carrierOf, coded, addedOn, isEscape}
-use Rattle.fields.specs.Promise.{Writer-done}
+use Rattle.fields.specs.Promise.{count, Encoded}
 
 -- Data bytes without an escape byte stand as they are.
 plain-more : (x : ℕ) (l : List ℕ) (t : Bool) → (escapes l ≡ 0 → escaped l ≡ l) → cond t 1 0 + escapes l ≡ 0
@@ -31,18 +32,30 @@ escaped-plain [] h = refl
 escaped-plain (x ∷ l) h = plain-more x l (eqb x escape) (escaped-plain l) h
 
 -- Data bytes on a carrier: those to which it adds none, the others, and how many they are.
-pub coded-plain : (flag : Bool) (l : List ℕ) → addedOn flag l ≡ 0 → coded flag l ≡ l
-unfolding coded
-coded-plain true l h = escaped-plain l h
+pub adds-none : (n : ℕ) → ltb 0 n ≡ false → n ≡ 0
+adds-none n h = omega (arith, ltb-false 0 n h)
+
+pub adds-some : (flag : Bool) (l : List ℕ) → ltb 0 (addedOn flag l) ≡ true → escapes l ≡ addedOn flag l
+unfolding addedOn
+adds-some true l h = refl
+adds-some false l h = absurd (true≢false (sym h))
+
+pub coded-plain : (flag : Bool) (l : List ℕ) → ltb 0 (addedOn flag l) ≡ false → coded flag l ≡ l
+unfolding coded addedOn
+coded-plain true l h = escaped-plain l (adds-none (escapes l) h)
 coded-plain false l h = refl
 
-pub coded-escaped : (flag : Bool) (l : List ℕ) → (addedOn flag l ≡ 0 → ⊥) → coded flag l ≡ escaped l
+pub plain-parallel : (l : List ℕ) → coded false l ≡ l
 unfolding coded
+plain-parallel l = refl
+
+pub coded-escaped : (flag : Bool) (l : List ℕ) → ltb 0 (addedOn flag l) ≡ true → coded flag l ≡ escaped l
+unfolding coded addedOn
 coded-escaped true l h = refl
-coded-escaped false l h = absurd (h refl)
+coded-escaped false l h = absurd (true≢false (sym h))
 
 pub coded-length : (flag : Bool) (l : List ℕ) → length (coded flag l) ≡ length l + addedOn flag l
-unfolding coded
+unfolding coded addedOn
 coded-length true l = escaped-length l
 coded-length false l = omega arith
 
@@ -77,6 +90,21 @@ module _ (l : List ℕ) (i : ℕ) where
   unfolding escapes
   escapes-none h = rw (drop-of-length-le l h)
 
+-- Whether an escape byte stands among bytes: among the first i, which is found, or from i on.
+some-more : (t : Bool) (n : ℕ) → ltb 0 (cond t 1 0 + n) ≡ (t || ltb 0 n)
+some-more true n = lt-ltb 0 (1 + n) (omega arith)
+some-more false n = ap (ltb 0) (zero-add n)
+
+module _ (l : List ℕ) (i : ℕ) (found : Bool) where
+  pub escape-more : {more : Bool} → i < length l → more ≡ (found || eqb (getD l i 0) escape) → (found || ltb 0 (escapes (drop i l))) ≡ ltb 0 (escapes l)
+      → (more || ltb 0 (escapes (drop (i + 1) l))) ≡ ltb 0 (escapes l)
+  escape-more h e inv =
+      let t = eqb (getD l i 0) escape in
+      rw e (or-assoc found t (ltb 0 (escapes (drop (i + 1) l))) ∙ (rw (escapes-more l i h, some-more t) at inv))
+
+  pub escape-all : length l ≤ i → (found || ltb 0 (escapes (drop i l))) ≡ ltb 0 (escapes l) → found ≡ ltb 0 (escapes l)
+  escape-all h inv = sym (or-false found) ∙ (rw (escapes-none l i h) at inv)
+
 -- One byte more after the first i of a list.
 pub put-next : (l : List ℕ) {out left : List ℕ} {i : ℕ} → i < length l → length l ≤ length out → Put (take i l) out left i
     → Put (take (i + 1) l) out (set left i (getD l i 0)) (i + 1)
@@ -95,10 +123,10 @@ put-next l {out} {left} {i} h room p =
 
 -- What the writer promises of a write and of a refusal.
 module _ {w out : List ℕ} where
-  pub done : {left : List ℕ} {n : ℕ} → Put w out left n → Writer-done (cond (ltb (length out) (length w)) 8 0) w out (Done n) left
+  pub done : {left : List ℕ} {n : ℕ} → Put w out left n → Encoded w out (Done n) left
   done p =
       let e = le-ltb (length out) (length w) (omega (arith, p .count, p .room)) in
       record { answer = rw e; written = rw e (p .count); bytes = rw e (p .bytes) }
 
-  pub no-room : length out < length w → Writer-done (cond (ltb (length out) (length w)) 8 0) w out NoRoom out
+  pub no-room : length out < length w → Encoded w out NoRoom out
   no-room h = let e = lt-ltb (length out) (length w) h in record { answer = rw e; written = rw e; bytes = rw e }

@@ -12,7 +12,7 @@ use Rattle.fields.specs.declared.Left.{Left}
 use Rattle.fields.specs.declared.Left.the-variants.{Room, Short}
 use Rattle.fields.specs.Carriers.{coded, addedOn, fieldsRaw}
 use Rattle.fields.specs.Room.{leftOf}
-use Rattle.fields.proofs.Laws.{coded-plain, coded-length, pair-length}
+use Rattle.fields.proofs.Laws.{plain-parallel, coded-length, pair-length}
 
 -- Data bytes take their length and the bytes that the carrier adds.
 module _ (flag : Bool) (l : List ℕ) {room n : ℕ} where
@@ -69,7 +69,7 @@ fits-none n room e = go (ltb room n) refl e
 module _ (flag : Bool) (h a b c : List ℕ) (room : ℕ) {p q r s : Left} where
   whole-left : p ≡ leftOf (length (coded false h)) (Room room) → q ≡ leftOf (length (coded flag a)) p → r ≡ leftOf (length (coded flag b)) q
       → s ≡ leftOf (length (coded flag c)) r → s ≡ leftOf (length (fieldsRaw flag h a b c)) (Room room)
-  whole-left w x y z = let e = coded-plain false h refl in z ∙ simp (y, x, w, e, left-left, length-append, pair-length, add-assoc)
+  whole-left w x y z = let e = plain-parallel h in z ∙ simp (y, x, w, e, left-left, length-append, pair-length, add-assoc)
 
   pub fits : {left : ℕ} → p ≡ leftOf (length (coded false h)) (Room room) → q ≡ leftOf (length (coded flag a)) p → r ≡ leftOf (length (coded flag b)) q
       → s ≡ leftOf (length (coded flag c)) r → s ≡ Room left → true ≡ leb (length (fieldsRaw flag h a b c)) room

@@ -1,7 +1,8 @@
--- Where a writer's answer is 0, the bytes that it counts are the encoding.
+-- Where a writer's answer is 0, its checks were passed and the bytes that it counts are the encoding.
 use Prim.Native.Nat.{ℕ}
 use mathlib.Core.Path.{_≡_, refl, sym, ap, _∙_}
-use mathlib.Core.Bool.{cond}
+use mathlib.Core.Bool.{Bool, true, false, cond, not}
+use native.Mathlib.Omega.{arith}
 use mathlib.Core.List.{List, _++_}
 use lib.Dec.{eqb}
 use lib.ListN.{length, take, drop}
@@ -18,3 +19,9 @@ wrote-is {n = n} {encoding = e} {out = out} d h =
     let k = d .written ∙ ap (λ (m : ℕ). cond (eqb m 0) (length e) 0) z in
     let l = d .bytes ∙ ap (λ (m : ℕ). cond (eqb m 0) (e ++ drop (length e) out) out) z in
     rw (k, l) (take-at e (drop (length e) out) (length e) refl)
+
+-- "Writer: 6, 9, 8": the answer 0 says that the first two did not come
+pub checks : (long ok room : Bool) → _≡_ {A = ℕ} (cond long 6 (cond (not ok) 9 (cond room 8 0))) 0 → (long ≡ false) × (ok ≡ true)
+checks true ok room e = absurd (omega (arith, e))
+checks false true room e = (refl, refl)
+checks false false room e = absurd (omega (arith, e))

@@ -15,7 +15,7 @@ unfoldable pub coded : Bool → List ℕ → List ℕ
 coded flag l = carried (carrierOf flag) l
 
 -- the bytes that the carrier adds to them
-abbrev pub addedOn : Bool → List ℕ → ℕ
+unfoldable pub addedOn : Bool → List ℕ → ℕ
 addedOn flag l = cond flag (escapes l) 0
 
 abbrev pub isEscape : ℕ → ℕ

@@ -29,7 +29,10 @@ pub record Writer-done (n : ℕ) (encoding out : List ℕ) (r : Written) (left :
   pub written : count r ≡ cond (eqb n 0) (length encoding) 0
   pub bytes : left ≡ cond (eqb n 0) (encoding ++ drop (length encoding) out) out
 
--- A heading and three fields: 8 exactly where the whole does not fit.
+-- Of an encoding whose checks are passed only the room is left to test: 8 exactly where the whole does not fit.
+abbrev pub Encoded : List ℕ → List ℕ → Written → List ℕ → Type 0
+Encoded encoding out r left = Writer-done (cond (ltb (length out) (length encoding)) 8 0) encoding out r left
+
+-- Of a heading and three fields.
 abbrev pub Fields-done : Bool → List ℕ → List ℕ → List ℕ → List ℕ → List ℕ → Written → List ℕ → Type 0
-Fields-done serial h a b c out r left =
-    Writer-done (cond (ltb (length out) (length (fieldsRaw serial h a b c))) 8 0) (fieldsRaw serial h a b c) out r left
+Fields-done serial h a b c out r left = Encoded (fieldsRaw serial h a b c) out r left

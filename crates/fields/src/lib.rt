@@ -2,9 +2,10 @@
 ghost use Prim.Native.Nat.{_≤_};
 ghost use mathlib.Core.Path.{_≡_};
 ghost use mathlib.Core.List.{_++_};
-ghost use lib.Dec.{leb};
+ghost use mathlib.Core.Bool.{_||_};
+ghost use lib.Dec.{eqb, leb, ltb};
 ghost use lib.ListN.{length};
-ghost use Rattle.serial_rules.specs.Escape.{escaped, escapes};
+ghost use Rattle.serial_rules.specs.Escape.{escape, escaped, escapes};
 ghost use Rattle.escape.specs.Put.{Put};
 ghost use Rattle.fields.specs.Carriers.{coded, addedOn, isEscape, fieldsRaw};
 ghost use Rattle.fields.specs.Promise.{Fields-done};
@@ -84,10 +85,43 @@ fn left_after(serial: bool, bytes: &[u8], left: Left) -> Left
 fn added(serial: bool, bytes: &[u8]) -> usize
     ensures { λ r. ⌜ r ≡ addedOn serial (now (bytes .entry)) ⌝ }
 {
-    if serial {
+    if doubles(serial, bytes) {
         return count_escapes(bytes);
     }
     0
+}
+
+// Whether the carrier adds bytes to data bytes.
+fn doubles(serial: bool, bytes: &[u8]) -> bool
+    ensures { λ r. ⌜ r ≡ ltb 0 (addedOn serial (now (bytes .entry))) ⌝ }
+{
+    if serial {
+        return has_escape(bytes);
+    }
+    false
+}
+
+// Whether one of the bytes is an escape byte. The loop has no other way out, so that it tests many bytes at once.
+fn has_escape(bytes: &[u8]) -> bool
+    ensures { λ r. ⌜ r ≡ ltb 0 (escapes (now (bytes .entry))) ⌝ }
+{
+    let mut found = false;
+    let mut i: usize = 0;
+    while i < bytes.len() {
+        found = or_escape(found, bytes[i]);
+        i += 1;
+    }
+    found
+}
+
+fn or_escape(found: bool, byte: u8) -> bool
+    ensures { λ r. ⌜ r ≡ (found || eqb byte escape) ⌝ }
+{
+    if byte == escape::Piece::ESCAPE {
+        true
+    } else {
+        found
+    }
 }
 
 // How many of the bytes are escape bytes.
@@ -145,15 +179,15 @@ fn put_two(serial: bool, first: &[u8], second: &[u8], out: &mut [u8]) -> usize
     at + n
 }
 
-// Writes data bytes: as they are where the carrier adds none, else escaped.
+// Writes data bytes: escaped where the carrier adds some, else as they are.
 fn put_data(serial: bool, bytes: &[u8], out: &mut [u8]) -> usize
     requires { ⌜ length (coded serial (now bytes)) ≤ length (now out) ⌝ }
     ensures { λ r. ⌜ Put (coded serial (now (bytes .entry))) (now (out .entry)) (now (out .exit)) r ⌝ }
 {
-    if added(serial, bytes) == 0 {
-        return put_plain(bytes, out);
+    if doubles(serial, bytes) {
+        return put_escaped(bytes, out);
     }
-    put_escaped(bytes, out)
+    put_plain(bytes, out)
 }
 
 // Writes data bytes with each escape byte doubled.

@@ -1,2 +1,3 @@
 pub mod Sessions
 pub mod Trips
+pub mod Calls

@@ -1,8 +1,7 @@
 -- Round trips of the program's own reply writer and link, for every kind of call.
 use Prim.Native.Nat.{ℕ, _≤_}
-use native.Mathlib.Omega.{arith}
 use mathlib.Core.Path.{_≡_, refl, sym, ap, subst, _∙_}
-use mathlib.Core.Bool.{Bool, true, false, cond, not}
+use mathlib.Core.Bool.{true}
 use mathlib.Core.List.{List, [], _∷_, _++_, map}
 use borrow.Author.Tests.{ltb-false, le-ltb}
 use lib.Dec.{ltb}
@@ -17,7 +16,7 @@ use Rattle.serial_rules.proofs.Normal.{read-then-written}
 use Rattle.serial_rules.proofs.Finishing.{Sound, after-sound, waitIn, reply-ends}
 use Rattle.fields.specs.declared.Written.{Written}
 use Rattle.fields.specs.Promise.{number}
-use Rattle.fields.proofs.Wrote.{wrote, wrote-is}
+use Rattle.fields.proofs.Wrote.{wrote, wrote-is, checks}
 use Rattle.kind.specs.Kinds.{kindFor}
 use Rattle.kind.specs.declared.CallKind.{CallKind}
 use Rattle.link.specs.declared.Link.{Link}
@@ -31,11 +30,6 @@ use Rattle.replies.specs.Sessions.{Sessions}
 use Rattle.replies.proofs.Sessions.{as-ruled}
 
 -- the answer 0 says that every check was passed, and the other way round where there is room
-checks : (long ok room : Bool) → _≡_ {A = ℕ} (cond long 6 (cond (not ok) 9 (cond room 8 0))) 0 → (long ≡ false) × (ok ≡ true)
-checks true ok room e = absurd (omega (arith, e))
-checks false true room e = (refl, refl)
-checks false false room e = absurd (omega (arith, e))
-
 passed : (k : rules.Kind) (r : rules.Reply) (b t : List ℕ) (room : ℕ) → rules.replyNumber k r b t room ≡ 0 → (length t ≤ stringLimit) × (rules.replyOk k r b t ≡ true)
 unfolding rules.replyNumber
 passed k r b t room e =

@@ -1,45 +1,31 @@
--- What the writer promises in each of its answers, and what the passed checks tell.
-use Prim.Native.Nat.{ℕ, _+_, _≤_, _<_}
+-- The number of the writer's answer after each check, and what the passed checks tell.
+use Prim.Native.Nat.{ℕ, _≤_, _<_}
 use native.Mathlib.Omega.{arith}
 use mathlib.Core.Path.{_≡_, refl, sym}
-use mathlib.Core.Bool.{Bool, true, false, not, _&&_, _||_, true≢false}
-use mathlib.Core.List.{List, _++_}
+use mathlib.Core.Bool.{Bool, true, false, cond, not, _&&_, _||_, true≢false}
+use mathlib.Core.List.{List}
 use borrow.Author.Tests.{lt-ltb, le-ltb, eqb-true, leb-true}
-use lib.Dec.{eqb}
+use lib.Dec.{eqb, ltb}
 use lib.ListN.{length}
-use Rattle.serial_rules.specs.Call as rules
-use Rattle.serial_rules.specs.Call.{Carrier, serial, parallel, stringLimit, codeOf, bodyOf, blockOk, hasString, numbersOk, hasReturn, callOk, heading, styleOk, encodingOf, writerNumber}
-use Rattle.escape.specs.Put.{Put}
-use Rattle.request_writer.specs.declared.Call.{Call}
-use Rattle.request_writer.specs.declared.Written.the-variants.{Done, TooLong, BadField, NoRoom}
-use Rattle.request_writer.specs.Calls.{callOf}
-use Rattle.request_writer.specs.Carriers.{carrierOf, coded, headingLength}
-use Rattle.request_writer.specs.Promise.{Request-done}
+use Rattle.serial_rules.specs.Call.{Call, osrdch, oscli, osbyteLow, osbyteHigh, osword, osword0, osargs, osbget, osbput, osfindClose, osfindOpen, osfile, osgbpb, Carrier, serial, parallel, stringLimit, blockOk, hasString, numbersOk, hasReturn, callOk, styleOk, encodingOf, writerNumber}
 
 -- the style and the fields of a call keep their rules
-abbrev pub allOk : Carrier → ℕ → Call → List ℕ → List ℕ → Bool
-allOk carrier style call b t = styleOk carrier style && callOk (callOf call) b t
+abbrev allOk : Carrier → ℕ → Call → List ℕ → List ℕ → Bool
+allOk carrier style call b t = styleOk carrier style && callOk call b t
 
-module _ {carrier : Carrier} {style : ℕ} {call : Call} {b t out : List ℕ} where
-  pub too-long : stringLimit < length t → Request-done carrier style call b t out TooLong out
+module _ (carrier : Carrier) (style : ℕ) (call : Call) (b t : List ℕ) (room : ℕ) where
+  pub too-long : stringLimit < length t → writerNumber carrier style call b t room ≡ 6
   unfolding writerNumber
-  too-long h = record { answer = simp (lt-ltb _ _ h); written = refl; bytes = refl }
+  too-long h = simp (lt-ltb _ _ h)
 
-  pub bad-field : length t ≤ stringLimit → allOk carrier style call b t ≡ false → Request-done carrier style call b t out BadField out
+  pub bad-field : length t ≤ stringLimit → allOk carrier style call b t ≡ false → writerNumber carrier style call b t room ≡ 9
   unfolding writerNumber
-  bad-field h ok = record { answer = simp (le-ltb _ _ h, ok); written = refl; bytes = refl }
+  bad-field h ok = simp (le-ltb _ _ h, ok)
 
-  pub no-room : length t ≤ stringLimit → allOk carrier style call b t ≡ true → length out < length (encodingOf carrier style (callOf call) b t)
-      → Request-done carrier style call b t out NoRoom out
+  pub accepted : length t ≤ stringLimit → allOk carrier style call b t ≡ true
+      → writerNumber carrier style call b t room ≡ cond (ltb room (length (encodingOf carrier style call b t))) 8 0
   unfolding writerNumber
-  no-room h ok r = record { answer = simp (le-ltb _ _ h, ok, lt-ltb _ _ r); written = refl; bytes = refl }
-
-  pub done : {left : List ℕ} {n : ℕ} → length t ≤ stringLimit → allOk carrier style call b t ≡ true
-      → Put (encodingOf carrier style (callOf call) b t) out left n → Request-done carrier style call b t out (Done n) left
-  unfolding writerNumber
-  done {left} {n} h ok p =
-      let fits : length (encodingOf carrier style (callOf call) b t) ≤ length out = omega (arith, p .count, p .room) in
-      record { answer = simp (le-ltb _ _ h, ok, le-ltb _ _ fits); written = p .count; bytes = p .bytes }
+  accepted h ok = simp (le-ltb _ _ h, ok)
 
 both-true : (a b : Bool) → a && b ≡ true → (a ≡ true) × (b ≡ true)
 both-true true b h = (refl, h)
@@ -52,56 +38,31 @@ style-fits parallel style h = omega (arith, eqb-true style 0 h)
 exact : (nb k : ℕ) → k ≤ 255 → eqb nb k ≡ true → nb ≤ 255
 exact nb k h e = omega (arith, eqb-true nb k e)
 
-block-fits : (call : rules.Call) (nb : ℕ) → blockOk call nb ≡ true → nb ≤ 255
-block-fits rules.osrdch nb h = exact nb 0 (omega arith) h
-block-fits rules.oscli nb h = exact nb 0 (omega arith) h
-block-fits (rules.osbyteLow x a) nb h = exact nb 0 (omega arith) h
-block-fits (rules.osbyteHigh x y a) nb h = exact nb 0 (omega arith) h
-block-fits (rules.osword a out) nb h = leb-true nb 255 h
-block-fits rules.osword0 nb h = exact nb 5 (omega arith) h
-block-fits (rules.osargs y a) nb h = exact nb 4 (omega arith) h
-block-fits (rules.osbget y) nb h = exact nb 0 (omega arith) h
-block-fits (rules.osbput y a) nb h = exact nb 0 (omega arith) h
-block-fits (rules.osfindClose y) nb h = exact nb 0 (omega arith) h
-block-fits (rules.osfindOpen a) nb h = exact nb 0 (omega arith) h
-block-fits (rules.osfile a) nb h = exact nb 16 (omega arith) h
-block-fits (rules.osgbpb a) nb h = exact nb 13 (omega arith) h
+block-fits : (call : Call) (nb : ℕ) → blockOk call nb ≡ true → nb ≤ 255
+block-fits osrdch nb h = exact nb 0 (omega arith) h
+block-fits oscli nb h = exact nb 0 (omega arith) h
+block-fits (osbyteLow x a) nb h = exact nb 0 (omega arith) h
+block-fits (osbyteHigh x y a) nb h = exact nb 0 (omega arith) h
+block-fits (osword a out) nb h = leb-true nb 255 h
+block-fits osword0 nb h = exact nb 5 (omega arith) h
+block-fits (osargs y a) nb h = exact nb 4 (omega arith) h
+block-fits (osbget y) nb h = exact nb 0 (omega arith) h
+block-fits (osbput y a) nb h = exact nb 0 (omega arith) h
+block-fits (osfindClose y) nb h = exact nb 0 (omega arith) h
+block-fits (osfindOpen a) nb h = exact nb 0 (omega arith) h
+block-fits (osfile a) nb h = exact nb 16 (omega arith) h
+block-fits (osgbpb a) nb h = exact nb 13 (omega arith) h
 
--- What the check of the fields tells: besides the rules themselves, that the heading and an OSWORD's in length are bytes.
-pub record Passed (carrier : Carrier) (style : ℕ) (call : Call) (b t : List ℕ) : Type 0 where
-  pub rules-kept : allOk carrier style call b t ≡ true
+-- What the check of the fields tells besides: that the mark and an OSWORD's in length are bytes.
+pub record Passed (style : ℕ) (b : List ℕ) : Type 0 where
   pub style-small : style ≤ 3
   pub block-small : length b ≤ 255
 
-pub passed : (carrier : Carrier) (style : ℕ) (call : Call) (b t : List ℕ) → allOk carrier style call b t ≡ true → Passed carrier style call b t
+pub passed : (carrier : Carrier) (style : ℕ) (call : Call) (b t : List ℕ) → allOk carrier style call b t ≡ true → Passed style b
 unfolding callOk
 passed carrier style call b t ok =
-    let strings = (hasString (callOf call) || eqb (length t) 0) && not (hasReturn t) in
+    let strings = (hasString call || eqb (length t) 0) && not (hasReturn t) in
     let x = both-true (styleOk carrier style) _ ok in
-    let y = both-true (numbersOk (callOf call)) (blockOk (callOf call) (length b) && strings) (x .1) in
-    let z = both-true (blockOk (callOf call) (length b)) strings (y .1) in
-    record { rules-kept = ok; style-small = style-fits carrier style (x .0); block-small = block-fits (callOf call) (length b) (z .0) }
-
--- The heading, then the body on the carrier.
-module _ (flag : Bool) (style : ℕ) where
-  pub heading-length : (code : ℕ) → length (heading (carrierOf flag) style code) ≡ headingLength flag
-  heading-length code = go flag
-    where
-      go : (f : Bool) → length (heading (carrierOf f) style code) ≡ headingLength f
-      go true = refl
-      go false = refl
-
-  pub encoding-length : (call : Call) (b t : List ℕ)
-      → length (encodingOf (carrierOf flag) style (callOf call) b t) ≡ headingLength flag + length (coded flag (bodyOf (callOf call) b t))
-  unfolding encodingOf coded
-  encoding-length call b t = go flag
-    where
-      go : (f : Bool) → length (encodingOf (carrierOf f) style (callOf call) b t) ≡ headingLength f + length (coded f (bodyOf (callOf call) b t))
-      go true = omega arith
-      go false = omega arith
-
-  pub encoding-put : {code : ℕ} (call : Call) (b t : List ℕ) {out left : List ℕ} {n : ℕ} → code ≡ codeOf (callOf call)
-      → Put (heading (carrierOf flag) style code ++ coded flag (bodyOf (callOf call) b t)) out left n
-      → Put (encodingOf (carrierOf flag) style (callOf call) b t) out left n
-  unfolding encodingOf coded
-  encoding-put call b t e p = rw e at p
+    let y = both-true (numbersOk call) (blockOk call (length b) && strings) (x .1) in
+    let z = both-true (blockOk call (length b)) strings (y .1) in
+    record { style-small = style-fits carrier style (x .0); block-small = block-fits call (length b) (z .0) }

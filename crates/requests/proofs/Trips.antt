@@ -1,25 +1,26 @@
 -- Round trips of the program's own writer and reader, on both carriers and for every call.
 use Prim.Native.Nat.{ℕ, _+_, _≤_}
-use native.Mathlib.Omega.{arith}
-use mathlib.Core.Path.{_≡_, refl, sym, ap, ap₂, subst, _∙_}
-use mathlib.Core.Bool.{Bool, true, false, cond, not, _&&_}
+use mathlib.Core.Path.{_≡_, sym, ap₂, subst, _∙_}
+use mathlib.Core.Bool.{true, false, _&&_}
 use mathlib.Core.List.{List, _++_}
 use borrow.Author.Tests.{ltb-false, le-ltb}
-use lib.Dec.{eqb, ltb}
-use lib.ListN.{length, take, drop}
-use lib.Seq.{take-at}
+use lib.Dec.{ltb}
+use lib.ListN.{length}
 use Rattle.serial_rules.specs.Call as rule
 use Rattle.serial_rules.specs.Call.{codeOf, bodyOf, styleOk, callOk, encodingOf, writerNumber, stringLimit}
 use Rattle.serial_rules.specs.Fields.{fieldsOf, fields}
+use Rattle.serial_rules.specs.Reply.{kindOf, kindIn}
 use Rattle.serial_rules.specs.Reader.{Reader as Ruled, Answer, request, outside, step}
 use Rattle.serial_rules.specs.Stream.{readerAfter, answers, Gives, rawOf}
 use Rattle.serial_rules.proofs.Trip.{All, and-both}
-use Rattle.serial_rules.proofs.Fields.{fields-back}
+use Rattle.serial_rules.proofs.Fields.{fields-back, kind-back}
 use Rattle.serial_rules.proofs.Standing.{finished-good, raw-encoding}
 use Rattle.request_writer.specs.declared.Call.{Call}
-use Rattle.request_writer.specs.declared.Written.{Written}
+use Rattle.fields.specs.declared.Written.{Written}
+use Rattle.fields.specs.Promise.{number}
+use Rattle.fields.proofs.Wrote.{wrote, wrote-is, checks}
 use Rattle.request_writer.specs.Calls.{callOf}
-use Rattle.request_writer.specs.Promise.{Request-done, number, count}
+use Rattle.request_writer.specs.Promise.{Request-done}
 use Rattle.request_reader.specs.declared.Carrier.{Carrier}
 use Rattle.request_reader.specs.declared.Reader.{Reader}
 use Rattle.request_reader.specs.declared.Stepped.{Stepped}
@@ -32,11 +33,6 @@ record Passed (carrier : rule.Carrier) (style : ℕ) (call : rule.Call) (b t : L
   short : length t ≤ stringLimit
   style-ok : styleOk carrier style ≡ true
   fields-ok : callOk call b t ≡ true
-
-checks : (long ok room : Bool) → _≡_ {A = ℕ} (cond long 6 (cond (not ok) 9 (cond room 8 0))) 0 → (long ≡ false) × (ok ≡ true)
-checks true ok room e = absurd (omega (arith, e))
-checks false true room e = (refl, refl)
-checks false false room e = absurd (omega (arith, e))
 
 passed : (carrier : rule.Carrier) (style : ℕ) (call : rule.Call) (b t : List ℕ) (room : ℕ) → writerNumber carrier style call b t room ≡ 0 → Passed carrier style call b t
 unfolding writerNumber
@@ -51,18 +47,7 @@ accepted : (carrier : rule.Carrier) (style : ℕ) (call : rule.Call) (b t : List
 unfolding writerNumber
 accepted carrier style call b t room short s ok h = simp (le-ltb _ _ short, s, ok, le-ltb _ _ h)
 
--- the bytes that the writer wrote
-abbrev pub wrote : Written → List ℕ → List ℕ
-wrote r left = take (count r) left
-
-module _ (k : Carrier) {style : ℕ} {call : Call} {b t out left : List ℕ} {r : Written} where
-  wrote-is : Request-done (carrierOf k) style call b t out r left → number r ≡ 0 → wrote r left ≡ encodingOf (carrierOf k) style (callOf call) b t
-  wrote-is d e =
-      let whole = encodingOf (carrierOf k) style (callOf call) b t in
-      let n : count r ≡ length whole = d .written ∙ ap (λ (m : ℕ). cond (eqb m 0) (length whole) 0) e in
-      let l : left ≡ whole ++ drop (length whole) out = d .bytes ∙ ap (λ (m : ℕ). cond (eqb m 0) (whole ++ drop (length whole) out) out) e in
-      rw (n, l) (take-at whole (drop (length whole) out) (length whole) refl)
-
+module _ (k : Carrier) (style : ℕ) (call : Call) (b t : List ℕ) {out left : List ℕ} {r : Written} where
   -- Writing then reading. Whatever the writer wrote and whatever follows it, a fresh reader needs more until the last byte written, which
   -- finishes that request; and the call, the block and the string come out of its body.
   pub written-read : {lent end rest : List ℕ} {q : Reader} {gave : List Answer}
@@ -77,15 +62,19 @@ module _ (k : Carrier) {style : ℕ} {call : Call} {b t out left : List ℕ} {r 
       (subst (λ (l : List ℕ). Read (fresh k) lent (l ++ rest) gave q end) w reads) in
       (rw w (x .0), rw w (x .1), fields-back (callOf call) b t (p .fields-ok))
 
+  -- and its kind comes out of its code and body
+  pub kind-written : Request-done (carrierOf k) style call b t out r left → number r ≡ 0 → kindIn (codeOf (callOf call)) (bodyOf (callOf call) b t) ≡ kindOf (callOf call)
+  kind-written d e = kind-back (callOf call) b t (passed (carrierOf k) style (callOf call) b t (length out) (sym (d .answer) ∙ e) .fields-ok)
+
 -- Reading then writing. A request that a reader finished, at any place of any stream of bytes, is accepted by the writer wherever there is room for
 -- it, and what the writer writes are the raw bytes of that request.
 pub read-written : {k : Carrier} {lent raw end left : List ℕ} {x : ℕ} {gave : List Answer} {q : Reader} {o : Stepped} {style code : ℕ} {body : List ℕ}
     → All (λ (b : ℕ). b ≤ 255) raw → x ≤ 255 → Read (fresh k) lent raw gave q end → Step-done q end x o left → answerOf (o .answer) left ≡ request style code body
-    → {call : Call} {out after : List ℕ} {r : Written} → callOf call ≡ fieldsOf code body .call
+    → (call : Call) {out after : List ℕ} {r : Written} → callOf call ≡ fieldsOf code body .call
     → Request-done (carrierOf k) style call (fieldsOf code body .block) (fieldsOf code body .text) out r after
     → length (rawOf (carrierOf k) (request style code body)) ≤ length out
     → (number r ≡ 0) × (wrote r after ≡ rawOf (carrierOf k) (request style code body))
-read-written {k = k} {raw = raw} {x = x} {style = style} {code = code} {body = body} bytes h t d e {call = call} {out = out} {r = r} is w room =
+read-written {k = k} {raw = raw} {x = x} {style = style} {code = code} {body = body} bytes h t d e call {out = out} {r = r} is w room =
     let a = as-ruled t in
     let at : step (carrierOf k) (readerAfter (carrierOf k) (outside false) raw) x .answer ≡ request style code body =
     sym (ap₂ (λ (c : Carrier) (v : Ruled). step (carrierOf c) v x .answer) (a .carrier) (a .left)) ∙ sym (d .answer) ∙ e in
@@ -95,4 +84,4 @@ read-written {k = k} {raw = raw} {x = x} {style = style} {code = code} {body = b
     let fits : length (encodingOf (carrierOf k) style (callOf call) (f .block) (f .text)) ≤ length out = rw is (rw enc at room) in
     let zero : number r ≡ 0 =
     w .answer ∙ accepted (carrierOf k) style (callOf call) (f .block) (f .text) (length out) (g .fields-ok .short) (g .style-ok) (rw is (g .fields-ok .ok)) fits in
-    (zero, wrote-is k w zero ∙ rw is (sym enc))
+    (zero, wrote-is w zero ∙ rw is (sym enc))

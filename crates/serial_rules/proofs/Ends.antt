@@ -1,7 +1,7 @@
 -- Bytes that belong together and are complete at their last byte, neither earlier nor later: so many of any bytes, a line, a text.
 use Prim.Native.Nat.{ℕ, suc, _+_, _-_, _≤_, _<_}
-use mathlib.Core.Path.{_≡_, refl}
-use mathlib.Core.Bool.{Bool, true, false, _||_, true≢false}
+use mathlib.Core.Path.{_≡_}
+use mathlib.Core.Bool.{false}
 use mathlib.Core.List.{List, [], _∷_, _++_}
 use native.Mathlib.Omega.{arith}
 use lib.Dec.{eqb}
@@ -11,6 +11,7 @@ use Rattle.serial_rules.specs.Call.{return, hasReturn}
 use Rattle.serial_rules.specs.Body.{more, done}
 use Rattle.serial_rules.specs.Reply.{Shape, fixed, line, text, shapeTurn}
 use Rattle.serial_rules.specs.Session.{hasZero}
+use Rattle.serial_rules.proofs.Trip.{or-false}
 
 -- the bytes after n of them: each but the last needs more
 pub data Ends (shape : Shape) : ℕ → List ℕ → Type 0 where
@@ -21,10 +22,6 @@ pub fixed-ends : (k n b : ℕ) (s : List ℕ) → suc n + length s ≡ k → End
 unfolding shapeTurn
 fixed-ends k n b [] h = last n b (rw (le-ltb n (k - 1) (omega arith)))
 fixed-ends k n b (c ∷ s) h = next n b (c ∷ s) (rw (lt-ltb n (k - 1) (omega arith))) (fixed-ends k (suc n) c s (omega arith))
-
-either-false : (a b : Bool) → a || b ≡ false → (a ≡ false) × (b ≡ false)
-either-false true b h = absurd (true≢false h)
-either-false false b h = (refl, h)
 
 pub positive : (n : ℕ) → eqb (suc n) 0 ≡ false
 positive n = ne-eqb (suc n) 0 (λ h. omega arith)
@@ -50,12 +47,12 @@ pub line-ends : (n : ℕ) (t : List ℕ) → hasReturn t ≡ false → n + lengt
 unfolding hasReturn
 line-ends n [] h r = last (suc n) return (line-done n)
 line-ends n (x ∷ t) h r =
-    let e = either-false (eqb x return) (hasReturn t) h in
+    let e = or-false (eqb x return) (hasReturn t) h in
     next (suc n) x (t ++ (return ∷ [])) (line-more n x (e .0) (omega arith)) (line-ends (suc n) t (e .1) (omega arith))
 
 pub text-ends : (n : ℕ) (t : List ℕ) → hasZero t ≡ false → n + length t ≤ 255 → Ends text (suc n) (t ++ (0 ∷ []))
 unfolding hasZero
 text-ends n [] h r = last (suc n) 0 (text-done n)
 text-ends n (x ∷ t) h r =
-    let e = either-false (eqb x 0) (hasZero t) h in
+    let e = or-false (eqb x 0) (hasZero t) h in
     next (suc n) x (t ++ (0 ∷ [])) (text-more n x (e .0) (omega arith)) (text-ends (suc n) t (e .1) (omega arith))

@@ -1,10 +1,10 @@
 -- What the two scans of a string meet at their next byte, and that the name is found.
-use Prim.Native.Nat.{ℕ, _+_, _-_, _≤_, _<_}
+use Prim.Native.Nat.{ℕ, suc, _+_, _-_, _≤_, _<_}
 use native.Mathlib.Numerals.{add-one}
 use native.Mathlib.Nat.{add-zero, zero-add}
 use native.Mathlib.Omega.{arith}
-use mathlib.Core.Path.{_≡_, subst}
-use mathlib.Core.Bool.{true, false, not}
+use mathlib.Core.Path.{_≡_, sym, subst, _∙_}
+use mathlib.Core.Bool.{Bool, true, false, not, _||_, or-assoc, or-false}
 use mathlib.Core.List.{List, [], _∷_, _++_}
 use borrow.Author.Tests.{eqb-true, eq-eqb, ne-eqb, le-leb, lt-leb, not-true}
 use lib.Dec.{eqb}
@@ -13,7 +13,7 @@ use lib.Seq.{drop-cons, take-all, drop-at}
 use Rattle.serial_rules.specs.Call.{osfile, return, stringLimit, bodyOf, blockOk, hasReturn, callOk}
 use Rattle.serial_rules.specs.Fields.{fieldsOf, last}
 use Rattle.serial_rules.proofs.Finished.{Rewritten}
-use Rattle.serial_rules.proofs.Trip.{and-both, or-false}
+use Rattle.serial_rules.proofs.Trip.{and-both, or-false as both-false}
 use Rattle.strings.specs.declared.Text.the-variants.{Found, Refused}
 use Rattle.strings.specs.Text.{stringFrom, nameOf}
 
@@ -34,19 +34,17 @@ module _ (t : List ℕ) (i : ℕ) where
   unfolding stringFrom
   not-ended h = rw (drop-of-length-le t h)
 
--- The first &0D of a string is at i or later.
-module _ (t : List ℕ) (i : ℕ) where
-  pub return-here : i < length t → getD t i 0 ≡ return → hasReturn (drop i t) ≡ true
+-- Whether &0D stands in a string: among its first i bytes, which is found, or from i on.
+module _ (t : List ℕ) (i : ℕ) (found : Bool) where
+  pub return-more : {more : Bool} → i < length t → more ≡ (found || eqb (getD t i 0) return) → (found || hasReturn (drop i t)) ≡ hasReturn t
+      → (more || hasReturn (drop (i + 1) t)) ≡ hasReturn t
   unfolding hasReturn
-  return-here h e = rw (drop-cons t i 0 h, eq-eqb _ _ e)
+  return-more h e inv =
+      rw (e, add-one) (or-assoc found (eqb (getD t i 0) return) (hasReturn (drop (suc i) t)) ∙ (rw (drop-cons t i 0 h) at inv))
 
-  pub return-later : i < length t → (getD t i 0 ≡ return → ⊥) → hasReturn (drop i t) ≡ hasReturn (drop (i + 1) t)
+  pub return-all : length t ≤ i → (found || hasReturn (drop i t)) ≡ hasReturn t → found ≡ hasReturn t
   unfolding hasReturn
-  return-later h n = rw (add-one, drop-cons t i 0 h, ne-eqb _ _ n)
-
-  pub return-nowhere : length t ≤ i → hasReturn (drop i t) ≡ false
-  unfolding hasReturn
-  return-nowhere h = rw (drop-of-length-le t h)
+  return-all h inv = sym (or-false found) ∙ (rw (drop-of-length-le t h) at inv)
 
 -- a body that ends inside the block
 pub no-name : (body : List ℕ) → length body < 16 → nameOf body ≡ Refused 9
@@ -64,7 +62,7 @@ string-found : (n : ℕ) (t rest : List ℕ) → n + length t ≤ stringLimit �
 unfolding stringFrom hasReturn
 string-found n [] rest h clean = rw add-zero
 string-found n (x ∷ t) rest h clean =
-    let c = or-false (eqb x return) (hasReturn t) clean in
+    let c = both-false (eqb x return) (hasReturn t) clean in
     let less : n < stringLimit = omega (arith, h) in
     let next : (n + 1) + length t ≤ stringLimit = omega (arith, h) in
     let sum : (n + 1) + length t ≡ n + length (x ∷ t) = omega arith in

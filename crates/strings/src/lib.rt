@@ -1,6 +1,8 @@
 // The strings of the protocol.
 ghost use mathlib.Core.Path.{_≡_};
-ghost use Rattle.serial_rules.specs.Call.{hasReturn};
+ghost use mathlib.Core.Bool.{_||_};
+ghost use lib.Dec.{eqb};
+ghost use Rattle.serial_rules.specs.Call.{return, hasReturn};
 ghost use Rattle.strings.specs.Text.{stringFrom, nameOf};
 
 // A string: its length without the &0D that ends it, or the number of the refusal.
@@ -45,16 +47,21 @@ pub fn string_length(tail: &[u8]) -> Text
     Text::Refused(9)
 }
 
-// Whether a string holds the byte that would end it.
+// Whether a string holds the byte that would end it. The loop has no other way out, so that it tests many bytes at once.
 pub fn has_return(text: &[u8]) -> bool
     ensures { λ r. ⌜ r ≡ hasReturn (now (text .entry)) ⌝ }
 {
+    let mut found = false;
     let mut i: usize = 0;
     while i < text.len() {
-        if text[i] == Text::RETURN {
-            return true;
-        }
+        found = or_return(found, text[i]);
         i += 1;
     }
-    false
+    found
+}
+
+fn or_return(found: bool, byte: u8) -> bool
+    ensures { λ r. ⌜ r ≡ (found || eqb byte return) ⌝ }
+{
+    if byte == Text::RETURN { true } else { found }
 }

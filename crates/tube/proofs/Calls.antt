@@ -7,8 +7,8 @@ use borrow.Author.Tests.{lt-ltb, le-ltb}
 use lib.ListN.{length}
 use Rattle.serial_rules.specs.Call.{stringLimit}
 use Rattle.request_writer.specs.declared.Call.{Call}
-use Rattle.request_writer.specs.declared.Written.{Written}
-use Rattle.request_writer.specs.declared.Written.the-variants.{TooLong, BadField}
+use Rattle.fields.specs.declared.Written.{Written}
+use Rattle.fields.specs.declared.Written.the-variants.{TooLong, BadField}
 use Rattle.request_writer.specs.Promise.{Request-done}
 use Rattle.request_reader.specs.View.{carrierOf}
 use Rattle.tube.specs.declared.FlatWritten.{FlatWritten}
@@ -20,7 +20,7 @@ module _ {carrier style n : ℕ} {call : Call} {b t out : List ℕ} {o : FlatWri
       → Request-done (carrierOf (carrierAt carrier)) style given b t out w left → o ≡ flatWritten w → Flat-request-done carrier style n call b t out o left
   done {given} {w} {left} known is d e =
       let s = subst (λ (c : Call). Request-done (carrierOf (carrierAt carrier)) style c b t out w left) is d in
-      rw e (record { answer = rw known (s .answer); written = s .written; bytes = s .bytes })
+      rw e (record { answer = rw known (s .answer); written = rw (s .answer) (s .written); bytes = rw (s .answer) (s .bytes) })
 
   pub too-long : callKnown carrier n ≡ false → stringLimit < length t → o ≡ flatWritten TooLong → Flat-request-done carrier style n call b t out o out
   too-long known h e = rw e (record { answer = simp (known, lt-ltb _ _ h); written = refl; bytes = refl })

@@ -9,9 +9,9 @@ use Rattle.serial_rules.specs.Call as rules
 use Rattle.serial_rules.specs.Call.{stringLimit, encodingOf, writerNumber}
 use Rattle.request_writer.specs.declared.Call.{Call}
 use Rattle.request_writer.specs.declared.Call.the-variants.{Osrdch, Oscli, OsbyteLow, OsbyteHigh, Osword, Osword0, Osargs, Osbget, Osbput, OsfindClose, OsfindOpen, Osfile, Osgbpb}
-use Rattle.request_writer.specs.declared.Written.{Written}
+use Rattle.fields.specs.declared.Written.{Written}
 use Rattle.request_writer.specs.Calls.{callOf}
-use Rattle.request_writer.specs.Promise.{number, count}
+use Rattle.fields.specs.Promise.{number, count}
 use Rattle.request_reader.specs.View.{carrierOf}
 use Rattle.tube.specs.declared.FlatWritten.{FlatWritten}
 use Rattle.tube.specs.Flat.{carrierAt}

@@ -8,12 +8,12 @@ ghost use Rattle.request_writer.specs.Promise.{Request-done};
 ghost use Rattle.script.specs.Script.{Play-done};
 ghost use Rattle.script_text.specs.Text.{Text-done};
 use chip::Chip;
+use fields::Written;
 use request_reader::Answer;
 use request_reader::Carrier;
 use request_reader::Phase;
 use request_reader::Reader;
 use request_writer::Call;
-use request_writer::Written;
 use script::Played;
 use strings::Text;
 

@@ -1,32 +1,29 @@
--- Turn i has found no &0D among the first i bytes, so there is one in the string where there is one from i on.
+-- Turn i has found whether &0D stands among the first i bytes; with those from i on they are all.
 use borrow.Author.Needs.{needs}
 use Prim.Native.Nat.{_-_, _≤_}
-use mathlib.Core.Path.{_≡_, sym, _∙_}
+use mathlib.Core.Path.{_≡_, refl}
+use mathlib.Core.Bool.{_||_}
 use denote.Ref.{now}
 use lib.ListN.{length, drop}
 use Rattle.serial_rules.specs.Call.{hasReturn}
-use Rattle.strings.proofs.Laws.{return-here, return-later, return-nowhere}
+use Rattle.strings.proofs.Laws.{return-more, return-all}
 use Rattle.strings.proofs.has_return.Statement.{statement}
 use Rattle.strings.proofs.has_return.Tie as tie
 
 abbrev Inv-loop : tie.InvT-loop
-Inv-loop text i₀ i = (i ≤ length text) × (hasReturn text ≡ hasReturn (drop i text))
+Inv-loop text found₀ i₀ found i = (i ≤ length text) × ((found || hasReturn (drop i text)) ≡ hasReturn text)
 
 abbrev μ-loop : tie.MeasureT-loop
-μ-loop text i₀ i = length text - i
-
-returns : tie.Need-returns Inv-loop μ-loop
-returns c =
-    let l = c .before .before .before in
-    sym (l .loop .inv .1 ∙ return-here (now (l .before .args .text)) (l .loop .i) (c .before .before .loop-test .taken) (c .if1 .taken))
+μ-loop text found₀ i₀ found i = length text - i
 
 loop-again : tie.Need-loop-again Inv-loop μ-loop
 loop-again c =
     let l = c .before .before .before in
-    (search needs, l .loop .inv .1 ∙ return-later (now (l .before .args .text)) (l .loop .i) (c .before .before .loop-test .taken) (c .if1 .left))
+    let t = now (l .before .before .args .text) in
+    (search needs, return-more t (l .loop .i) (l .loop .found) (c .before .before .loop-test .taken) (c .or-return .ensures) (l .loop .inv .1))
 
-returns-2 : tie.Need-returns-2 Inv-loop μ-loop
-returns-2 c = sym (c .before .loop .inv .1 ∙ return-nowhere (now (c .before .before .args .text)) (c .before .loop .i) (c .loop-test .left))
+returns : tie.Need-returns Inv-loop μ-loop
+returns c = return-all (now (c .before .before .before .args .text)) (c .before .loop .i) (c .before .loop .found) (c .loop-test .left) (c .before .loop .inv .1)
 
 pub has-return-spec : {M : Type 1} → statement M
 has-return-spec =
@@ -34,10 +31,10 @@ has-return-spec =
     (tie.spec
     Inv-loop
     μ-loop
+    (λ c. (search needs, refl))
     (λ c. search needs)
-    (λ c. search needs)
-    returns
+    (λ c κs. search needs)
     (λ c. search needs)
     (λ c. search needs)
     loop-again
-    returns-2)
+    returns)
