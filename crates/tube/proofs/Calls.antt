@@ -11,7 +11,7 @@ use Rattle.request_writer.specs.declared.Written.{Written}
 use Rattle.request_writer.specs.declared.Written.the-variants.{TooLong, BadField}
 use Rattle.request_writer.specs.Promise.{Request-done}
 use Rattle.request_reader.specs.View.{carrierOf}
-use Rattle.tube.specs.declared.FlatWritten.{FlatWritten}
+use Rattle.flat_link.specs.declared.FlatWritten.{FlatWritten}
 use Rattle.tube.specs.Flat.{carrierAt}
 use Rattle.tube.specs.FlatCall.{callKnown, flatWritten, Flat-request-done}
 

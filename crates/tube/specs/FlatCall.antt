@@ -13,7 +13,7 @@ use Rattle.request_writer.specs.declared.Written.{Written}
 use Rattle.request_writer.specs.Calls.{callOf}
 use Rattle.request_writer.specs.Promise.{number, count}
 use Rattle.request_reader.specs.View.{carrierOf}
-use Rattle.tube.specs.declared.FlatWritten.{FlatWritten}
+use Rattle.flat_link.specs.declared.FlatWritten.{FlatWritten}
 use Rattle.tube.specs.Flat.{carrierAt}
 
 -- the calls in the order of the request table, from 0
