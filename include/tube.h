@@ -1,4 +1,4 @@
-/* The Tube chip, the script player, and the requests of both carriers, proved in Rattle. Link libtube.a and libboard.a (`rt staticlib tube`, `rt staticlib board`).
+/* The Tube chip, the script player, the requests of both carriers, and the link with its replies, proved in Rattle. Link libtube.a and libboard.a (`rt staticlib tube`, `rt staticlib board`).
  *
  * Every function is total: any side, offset, operation, byte and any bytes in a record are answered by number. The caller's own duty
  * is what C cannot say: a pointer points to a whole record or to as many bytes as its length says, no pointer is null (an empty
@@ -30,11 +30,12 @@ enum {
     TUBE_UNKNOWN_CODE = 4,
     TUBE_MARK_INSIDE = 5,   /* a mark that cannot stand where it came */
     TUBE_STRING_LONG = 6,   /* a string over 255 bytes */
-    TUBE_STOPPED = 7,       /* the reader was stopped by an earlier refusal */
+    TUBE_STOPPED = 7,       /* the reader or the link was stopped by an earlier refusal */
     TUBE_BUFFER_SHORT = 8,  /* a lent buffer is too short: no byte of it was touched, nothing was played */
     TUBE_BAD_FIELD = 9,
     TUBE_LIMIT_REACHED = 10,
-    TUBE_CUT_SHORT = 11     /* a script that ends inside a record */
+    TUBE_CUT_SHORT = 11,    /* a script that ends inside a record */
+    TUBE_CALL_WAITS = 12    /* a call begun while another waits */
 };
 
 typedef struct {
@@ -124,5 +125,128 @@ typedef struct {
 TubeWritten tube_write_request(uint8_t carrier, uint8_t style, uint8_t call, uint8_t x, uint8_t y, uint8_t a, uint8_t out_length,
                                const uint8_t *block, size_t block_length, const uint8_t *text, size_t text_length,
                                uint8_t *out, size_t room);
+
+/* The client's end of the serial lead. */
+enum { TUBE_LENT = 257 }; /* the longest reply, and the most bytes that an action has of its own */
+enum { TUBE_NOTE = 5 };   /* the bytes of a note */
+enum { TUBE_NO_ACTION = 0, TUBE_IN_ERROR = 1, TUBE_IN_EVENT = 2, TUBE_IN_ADDRESS = 3 };
+
+/* A link. An escape was seen, and the link is stopped, where the number is not 0. A record with `wait` above 13 or `action` above 3, or one
+ * that exceeds its limits, counts as stopped. */
+typedef struct {
+    size_t got;         /* bytes of the reply so far */
+    size_t held;        /* bytes of the open action so far */
+    uint8_t wait;       /* 0 where no call waits, else 1 + the number of the call (TubeCall) */
+    uint8_t out_length; /* of an OSWORD that waits */
+    uint8_t escape;
+    uint8_t action;     /* the open one */
+    uint8_t stopped;
+} TubeLink;
+
+enum {
+    TUBE_TOLD_MORE = 0,
+    TUBE_TOLD_CHARACTER = 1,
+    TUBE_TOLD_ESCAPE = 2,
+    TUBE_TOLD_EVENT = 3,
+    TUBE_TOLD_ADDRESS = 4,
+    TUBE_TOLD_REPLY = 5,
+    TUBE_TOLD_ERROR = 6,
+    TUBE_TOLD_RESTART = 7,
+    TUBE_TOLD_REFUSED = 8
+};
+
+/* What a raw byte gives. What its kind does not name is 0.
+ *   character   first
+ *   Escape      first: 1 on, 0 off
+ *   event       first Y, second X, third A
+ *   address     first to fourth, high byte first
+ *   reply       the first `length` bytes of the lent reply; read its fields by tube_read_reply
+ *   error       first is its number, its text the `length` bytes of the other lent bytes from the second on; the call that waited is over
+ *   restart     the call that waited is over
+ *   refused     first is the answer's number; the link is stopped */
+typedef struct {
+    TubeLink link;
+    size_t length;
+    uint8_t kind;
+    uint8_t first;
+    uint8_t second;
+    uint8_t third;
+    uint8_t fourth;
+} TubeTold;
+
+/* A fresh link; it is also what resets a stopped one. */
+TubeLink tube_link(void);
+
+enum { TUBE_BEGUN = 0, TUBE_COMPLETE = 1, TUBE_DENIED = 2 };
+
+typedef struct {
+    TubeLink link;
+    uint8_t kind;   /* the call waits; or it is complete, since its reply has no byte; or it is denied */
+    uint8_t answer; /* of a denied call, else 0 */
+} TubeBegun;
+
+/* Begins a call, so that the data bytes that follow are its reply. The link is the one given unless the call waits. `out_length` is read for
+ * OSWORD only. A number that is no call is answered as by a stopped link. */
+TubeBegun tube_begin(TubeLink link, uint8_t call, uint8_t out_length);
+
+/* One raw byte. The reply so far and the open action's own bytes stand in the two lent buffers, which the caller keeps from call to call. */
+TubeTold tube_link_step(TubeLink link, uint8_t raw, uint8_t reply[TUBE_LENT], uint8_t own[TUBE_LENT]);
+
+typedef struct {
+    TubeTold told; /* where it ended: a reply, an error, a restart or a refusal, or need-more where the slice ended first */
+    size_t used;   /* the bytes of the slice that were read, that answer's too; the next slice starts behind them */
+    size_t noted;  /* the notes written into `room` */
+} TubeRan;
+
+/* Raw bytes, one by one as tube_link_step takes them, up to a reply, an error, a restart or a refusal. Each character, Escape state, event and
+ * address on the way leaves a note in `room`, one behind the other: TUBE_NOTE bytes, which are kind, first, second, third and fourth as a
+ * TubeTold has them. The room is for a note a raw byte: where it is shorter than TUBE_NOTE * raw_length the answer is TUBE_BUFFER_SHORT, no
+ * byte is used and nothing changes, the link too. */
+TubeRan tube_run(TubeLink link, const uint8_t *raw, size_t raw_length, uint8_t reply[TUBE_LENT], uint8_t own[TUBE_LENT], uint8_t *room, size_t room_length);
+
+/* The replies, with the numbers that each has; a carry is set where its number is not 0. */
+typedef enum {
+    TUBE_REPLY_CARRY_A,      /* OSRDCH, OSBGET: carry, a */
+    TUBE_REPLY_ACK,          /* OSCLI: carry */
+    TUBE_REPLY_BYTE,         /* OSBYTE low, opening OSFIND: a */
+    TUBE_REPLY_CARRY_YX,     /* OSBYTE high: carry, y, x */
+    TUBE_REPLY_BLOCK,        /* OSWORD: block */
+    TUBE_REPLY_ESCAPED_LINE, /* OSWORD 0, escaped */
+    TUBE_REPLY_READ_LINE,    /* OSWORD 0: text */
+    TUBE_REPLY_A_BLOCK,      /* OSARGS, OSFILE: a, block */
+    TUBE_REPLY_PLAIN,        /* OSBPUT, closing OSFIND */
+    TUBE_REPLY_BLOCK_CARRY_A, /* OSGBPB: block, carry, a */
+    TUBE_REPLY_NONE          /* read for a number that is no call */
+} TubeReplyForm;
+
+/* Writes the reply to a call into the start of `out`; the bytes beyond it stay, and a refused writer has touched none. A number that the reply
+ * does not have is not read. `block` is high byte first; `text` is the line without &0D. */
+TubeWritten tube_write_reply(uint8_t call, uint8_t out_length, uint8_t reply, uint8_t carry, uint8_t x, uint8_t y, uint8_t a,
+                             const uint8_t *block, size_t block_length, const uint8_t *text, size_t text_length,
+                             uint8_t *out, size_t room);
+
+/* A reply read: what it does not have is 0, `carry` is 0 or 1. Its block and its string lie inside the bytes read. */
+typedef struct {
+    size_t block_start;
+    size_t block_length;
+    size_t text_start;
+    size_t text_length;
+    uint8_t reply;
+    uint8_t carry;
+    uint8_t x;
+    uint8_t y;
+    uint8_t a;
+} TubeGiven;
+
+/* The fields of the data bytes of a finished reply to a call. A byte that is not there counts as 0. */
+TubeGiven tube_read_reply(uint8_t call, uint8_t out_length, const uint8_t *bytes, size_t length);
+
+typedef struct {
+    uint8_t call;
+    uint8_t out_length; /* OSWORD's, else 0 */
+} TubeKind;
+
+/* The call of a finished request, by its code and body, as tube_begin, tube_write_reply and tube_read_reply take it. */
+TubeKind tube_kind_of(uint8_t code, const uint8_t *body, size_t length);
 
 #endif

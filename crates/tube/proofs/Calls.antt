@@ -11,9 +11,10 @@ use Rattle.fields.specs.declared.Written.{Written}
 use Rattle.fields.specs.declared.Written.the-variants.{TooLong, BadField}
 use Rattle.request_writer.specs.Promise.{Request-done}
 use Rattle.request_reader.specs.View.{carrierOf}
-use Rattle.tube.specs.declared.FlatWritten.{FlatWritten}
+use Rattle.flat_link.specs.declared.FlatWritten.{FlatWritten}
 use Rattle.tube.specs.Flat.{carrierAt}
-use Rattle.tube.specs.FlatCall.{callKnown, flatWritten, Flat-request-done}
+use Rattle.tube.specs.FlatCall.{callKnown, Flat-request-done}
+use Rattle.flat_link.specs.Replies.{flatWritten}
 
 module _ {carrier style n : ℕ} {call : Call} {b t out : List ℕ} {o : FlatWritten} where
   pub done : {given : Call} {w : Written} {left : List ℕ} → callKnown carrier n ≡ true → given ≡ call

@@ -5,7 +5,6 @@ use mathlib.Core.Bool.{Bool, cond, not, _&&_}
 use mathlib.Core.List.{List}
 use lib.Dec.{eqb, leb}
 use lib.ListN.{take}
-use Rattle.serial_rules.specs.Call as call
 use Rattle.serial_rules.specs.Reader as rules
 use Rattle.request_reader.specs.declared.Carrier.{Carrier}
 use Rattle.request_reader.specs.declared.Carrier.the-variants.{Serial, Parallel}

@@ -5,15 +5,12 @@ use mathlib.Core.Bool.{Bool, cond, _&&_}
 use mathlib.Core.List.{List, _++_}
 use lib.Dec.{eqb, leb, ltb}
 use lib.ListN.{length, drop}
-use Rattle.serial_rules.specs.Call as rules
 use Rattle.serial_rules.specs.Call.{stringLimit, encodingOf, writerNumber}
 use Rattle.request_writer.specs.declared.Call.{Call}
 use Rattle.request_writer.specs.declared.Call.the-variants.{Osrdch, Oscli, OsbyteLow, OsbyteHigh, Osword, Osword0, Osargs, Osbget, Osbput, OsfindClose, OsfindOpen, Osfile, Osgbpb}
-use Rattle.fields.specs.declared.Written.{Written}
 use Rattle.request_writer.specs.Calls.{callOf}
-use Rattle.fields.specs.Promise.{number, count}
 use Rattle.request_reader.specs.View.{carrierOf}
-use Rattle.tube.specs.declared.FlatWritten.{FlatWritten}
+use Rattle.flat_link.specs.declared.FlatWritten.{FlatWritten}
 use Rattle.tube.specs.Flat.{carrierAt}
 
 -- the calls in the order of the request table, from 0
@@ -35,9 +32,6 @@ callAt n x y a outLength =
 
 unfoldable pub callKnown : ℕ → ℕ → Bool
 callKnown carrier call = leb carrier 1 && leb call 12
-
-abbrev pub flatWritten : Written → FlatWritten
-flatWritten r = record { length = count r; answer = number r }
 
 -- the number of the answer: a carrier or a call out of range is a field that breaks its rule
 abbrev pub flatNumber : ℕ → ℕ → ℕ → Call → List ℕ → List ℕ → ℕ → ℕ

@@ -2,13 +2,24 @@
 ghost use mathlib.Core.Path.{_≡_};
 ghost use Rattle.tube.specs.Flat.{carrierAt, phaseAt, carrierNumber, phaseNumber, readerOf, escapeNumber, flatOf, flatRead, flatPlain, tagsOk, flatFresh, Flat-done};
 ghost use Rattle.tube.specs.FlatFeed.{Flat-feed-done};
-ghost use Rattle.tube.specs.FlatCall.{callAt, callKnown, flatWritten, Flat-request-done};
+ghost use Rattle.tube.specs.FlatCall.{callAt, callKnown, Flat-request-done};
 ghost use Rattle.request_reader.specs.View.{carrierOf};
 ghost use Rattle.request_writer.specs.Promise.{Request-done};
 ghost use Rattle.script.specs.Script.{Play-done};
 ghost use Rattle.script_text.specs.Text.{Text-done};
+ghost use Rattle.flat_link.specs.Kinds.{kindAt, Flat-kind-done};
+ghost use Rattle.flat_link.specs.Links.{freshLink, Flat-step-done, Flat-begin-done};
+ghost use Rattle.flat_link.specs.Runs.{Flat-run-done};
+ghost use Rattle.flat_link.specs.Replies.{replyAt, Flat-reply-done, Flat-read-done};
 use chip::Chip;
 use fields::Written;
+use flat_link::FlatBegun;
+use flat_link::FlatGiven;
+use flat_link::FlatKind;
+use flat_link::FlatLink;
+use flat_link::FlatRan;
+use flat_link::FlatTold;
+use flat_link::FlatWritten;
 use request_reader::Answer;
 use request_reader::Carrier;
 use request_reader::Phase;
@@ -247,13 +258,6 @@ fn escape_number(given: u8, seen: bool) -> u8
     }
 }
 
-// What a writer of a request gives: the number of its answer, and on 0 the length of the encoding.
-#[repr(C)]
-pub struct FlatWritten {
-    pub length: usize,
-    pub answer: u8,
-}
-
 // Writes a request: see `request_writer::write_serial` (carrier 0) and `write_parallel` (1). The calls are numbered in the order of
 // `request_writer::Call`, from 0; another carrier or call is a field that breaks its rule. A number that the call does not have is not read.
 #[no_mangle]
@@ -273,12 +277,12 @@ pub extern "C" fn tube_write_request(
 {
     if call_known(carrier, call) {
         let given = call_at(call, x, y, a, out_length);
-        return flat_written(write_on(carrier, style, given, block, text, out));
+        return flat_link::flat_written(write_on(carrier, style, given, block, text, out));
     }
     if Text::LIMIT < text.len() {
-        return flat_written(Written::TooLong);
+        return flat_link::flat_written(Written::TooLong);
     }
-    flat_written(Written::BadField)
+    flat_link::flat_written(Written::BadField)
 }
 
 // Whether the numbers of the carrier and of the call are in range.
@@ -354,26 +358,80 @@ fn call_at(number: u8, x: u8, y: u8, a: u8, out_length: u8) -> Call
     Call::Osgbpb { a: a }
 }
 
-// The flat result of a writer.
-fn flat_written(written: Written) -> FlatWritten
-    ensures { λ r. ⌜ r ≡ flatWritten written ⌝ }
+// The link and the replies are those of `flat_link`. A fresh link: see `flat_link::fresh`.
+#[no_mangle]
+pub extern "C" fn tube_link() -> FlatLink
+    ensures { λ r. ⌜ r ≡ freshLink ⌝ }
 {
-    match written {
-        Written::Done(n) => FlatWritten {
-            length: n,
-            answer: 0,
-        },
-        Written::TooLong => FlatWritten {
-            length: 0,
-            answer: 6,
-        },
-        Written::BadField => FlatWritten {
-            length: 0,
-            answer: 9,
-        },
-        Written::NoRoom => FlatWritten {
-            length: 0,
-            answer: 8,
-        },
-    }
+    flat_link::fresh()
+}
+
+// Begins a call: see `flat_link::begin`.
+#[no_mangle]
+pub extern "C" fn tube_begin(link: FlatLink, call: u8, out_length: u8) -> FlatBegun
+    ensures { λ r. ⌜ Flat-begin-done link call «out_length» r ⌝ }
+{
+    flat_link::begin(link, call, out_length)
+}
+
+// The loop over raw bytes: see `flat_link::run`.
+#[no_mangle]
+pub extern "C" fn tube_run(
+    link: FlatLink,
+    raw: &[u8],
+    reply: &mut [u8; 257],
+    own: &mut [u8; 257],
+    room: &mut [u8],
+) -> FlatRan
+    ensures { λ r. ⌜ Flat-run-done link (now (reply .entry)) (now (own .entry)) (now (raw .entry)) (now (room .entry)) r (now (reply .exit)) (now (own .exit)) (now (room .exit)) ⌝ }
+{
+    flat_link::run(link, raw, reply, own, room)
+}
+
+// One raw byte: see `flat_link::step`.
+#[no_mangle]
+pub extern "C" fn tube_link_step(
+    link: FlatLink,
+    raw: u8,
+    reply: &mut [u8; 257],
+    own: &mut [u8; 257],
+) -> FlatTold
+    ensures { λ r. ⌜ Flat-step-done link (now (reply .entry)) (now (own .entry)) raw r (now (reply .exit)) (now (own .exit)) ⌝ }
+{
+    flat_link::step(link, raw, reply, own)
+}
+
+// Writes a reply: see `flat_link::write_reply`.
+#[no_mangle]
+pub extern "C" fn tube_write_reply(
+    call: u8,
+    out_length: u8,
+    reply: u8,
+    carry: u8,
+    x: u8,
+    y: u8,
+    a: u8,
+    block: &[u8],
+    text: &[u8],
+    out: &mut [u8],
+) -> FlatWritten
+    ensures { λ r. ⌜ Flat-reply-done call (kindAt call «out_length») reply (replyAt reply carry x y a) (now (block .entry)) (now (text .entry)) (now (out .entry)) r (now (out .exit)) ⌝ }
+{
+    flat_link::write_reply(call, out_length, reply, carry, x, y, a, block, text, out)
+}
+
+// The fields of a finished reply: see `flat_link::read_reply`.
+#[no_mangle]
+pub extern "C" fn tube_read_reply(call: u8, out_length: u8, bytes: &[u8]) -> FlatGiven
+    ensures { λ r. ⌜ Flat-read-done call (kindAt call «out_length») (now (bytes .entry)) r ⌝ }
+{
+    flat_link::read_reply(call, out_length, bytes)
+}
+
+// The kind of a finished request: see `flat_link::kind_of`.
+#[no_mangle]
+pub extern "C" fn tube_kind_of(code: u8, body: &[u8]) -> FlatKind
+    ensures { λ r. ⌜ Flat-kind-done code (now (body .entry)) r ⌝ }
+{
+    flat_link::kind_of(code, body)
 }

@@ -1,7 +1,7 @@
 -- Each answer has its own number.
 use borrow.Author.Needs.{needs}
-use Rattle.tube.proofs.flat_written.Statement.{statement}
-use Rattle.tube.proofs.flat_written.Tie as tie
+use Rattle.flat_link.proofs.flat_written.Statement.{statement}
+use Rattle.flat_link.proofs.flat_written.Tie as tie
 
 enum-known-written : tie.Need-enum-known-written
 enum-known-written c = search needs

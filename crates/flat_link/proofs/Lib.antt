@@ -1,0 +1,4 @@
+pub mod Conversions
+pub mod Links
+pub mod OneByte
+pub mod Replies

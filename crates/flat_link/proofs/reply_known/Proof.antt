@@ -1,0 +1,16 @@
+-- Both numbers are in range exactly where both tests pass.
+use Rattle.flat_link.specs.Replies.{replyKnown}
+use borrow.Author.Tests.{le-leb, lt-leb}
+use Rattle.flat_link.proofs.reply_known.Statement.{statement}
+use Rattle.flat_link.proofs.reply_known.Tie as tie
+
+returns : tie.Need-returns
+unfolding replyKnown
+returns c = rw (le-leb _ _ (c .if1 .taken))
+
+returns-2 : tie.Need-returns-2
+unfolding replyKnown
+returns-2 c = rw (lt-leb _ _ (c .if1 .left))
+
+pub reply-known-spec : {M : Type 1} → statement M
+reply-known-spec = tie.close (tie.spec returns returns-2)

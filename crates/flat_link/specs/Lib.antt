@@ -1,0 +1,4 @@
+pub mod Kinds
+pub mod Links
+pub mod Runs
+pub mod Replies

@@ -1,0 +1,597 @@
+// The link, the replies and the kinds of call as flat records: numbers for the enums and the bools, with total conversions, so that they can
+// cross to C. The calls are numbered in the order of `kind::CallKind`, from 0, as `tube_write_request` numbers them.
+ghost use Prim.Native.Nat.{_≤_};
+ghost use mathlib.Core.Path.{_≡_};
+ghost use Rattle.link.specs.View.{begunOf};
+ghost use Rattle.flat_link.specs.Kinds.{kindAt, kindNumber, kindOut, Flat-kind-done};
+ghost use Rattle.flat_link.specs.Links.{waitAt, doingAt, linkOf, tagsOk, freshLink, waitNumber, waitOut, doingNumber, flagNumber, flatOf, toldWith, flatTold, flatBegun, Flat-step-done, Flat-begin-done};
+ghost use Rattle.flat_link.specs.Runs.{flatRan, flatUnknown, ranWith, Flat-run-done};
+ghost use Rattle.flat_link.specs.Replies.{replyAt, replyKnown, flatWritten, flatGiven, givenWith, Flat-reply-done, Flat-read-done};
+use fields::Written;
+use kind::CallKind;
+use link::Action;
+use link::Answer;
+use link::Begun;
+use link::Doing;
+use link::Link;
+use link::Ran;
+use link::Wait;
+use reply::Given;
+use reply::Reply;
+use strings::Text;
+
+// A link. `got` bytes of the reply and `held` bytes of the open action came so far. `wait` is 0 where the link is idle, else one more than the
+// number of the call that waits, OSWORD with its `out_length`; `action` is 0 where none is open, 1 for an error, 2 for an event, 3 for an
+// address; an escape was seen, and the link is stopped, where the number is not 0. A record with `wait` above 13 or `action` above 3 counts as
+// stopped.
+#[repr(C)]
+pub struct FlatLink {
+    pub got: usize,
+    pub held: usize,
+    pub wait: u8,
+    pub out_length: u8,
+    pub escape: u8,
+    pub action: u8,
+    pub stopped: u8,
+}
+
+// What a raw byte gives: kind 0 needs more; 1 is a character (first); 2 the Escape state (first, 0 or 1); 3 an event (Y, X, A); 4 an address
+// (first to fourth, high byte first); 5 a finished reply (length); 6 an error (first is its number, length that of its text, which stands in the
+// other lent bytes from the second on); 7 a restart; 8 a refusal (first is its number). What is not named is 0.
+#[repr(C)]
+pub struct FlatTold {
+    pub link: FlatLink,
+    pub length: usize,
+    pub kind: u8,
+    pub first: u8,
+    pub second: u8,
+    pub third: u8,
+    pub fourth: u8,
+}
+
+// What a begun call gives: kind 0 waits, 1 is complete, 2 is refused with the number `answer`, which is else 0.
+#[repr(C)]
+pub struct FlatBegun {
+    pub link: FlatLink,
+    pub kind: u8,
+    pub answer: u8,
+}
+
+// What the loop over raw bytes gives: where it ended, how many of them it used, and how many notes it wrote.
+#[repr(C)]
+pub struct FlatRan {
+    pub told: FlatTold,
+    pub used: usize,
+    pub noted: usize,
+}
+
+// A reply read: its number in the order of `reply::Reply`, from 0, its own numbers, and where its block and its string lie in the bytes. What
+// the reply lacks is 0.
+#[repr(C)]
+pub struct FlatGiven {
+    pub block_start: usize,
+    pub block_length: usize,
+    pub text_start: usize,
+    pub text_length: usize,
+    pub reply: u8,
+    pub carry: u8,
+    pub x: u8,
+    pub y: u8,
+    pub a: u8,
+}
+
+// The kind of a call: its number, and OSWORD's out length, else 0.
+#[repr(C)]
+pub struct FlatKind {
+    pub call: u8,
+    pub out_length: u8,
+}
+
+// What a writer gives: the number of its answer, and on 0 the length of the encoding.
+#[repr(C)]
+pub struct FlatWritten {
+    pub length: usize,
+    pub answer: u8,
+}
+
+impl FlatKind {
+    // The highest number of a call.
+    const LAST: u8 = 12;
+}
+
+// A fresh link; it is also what resets a stopped one.
+pub fn fresh() -> FlatLink
+    ensures { λ r. ⌜ r ≡ freshLink ⌝ }
+{
+    FlatLink {
+        got: 0,
+        held: 0,
+        wait: 0,
+        out_length: 0,
+        escape: 0,
+        action: 0,
+        stopped: 0,
+    }
+}
+
+// Begins a call: see `link::Link::begin`. A call that does not exist is refused as on a stopped link.
+pub fn begin(link: FlatLink, call: u8, out_length: u8) -> FlatBegun
+    ensures { λ r. ⌜ Flat-begin-done link call «out_length» r ⌝ }
+{
+    if has_tags(link) {
+        if call <= FlatKind::LAST {
+            let started = unflattened(link).begin(kind_at(call, out_length));
+            let answer = started.answer;
+            let next = started.link;
+            return flat_begun(flattened(link, next), answer);
+        }
+    }
+    flat_begun(link, Begun::Denied(7))
+}
+
+// The loop over raw bytes: see `link::Link::run`.
+pub fn run(
+    link: FlatLink,
+    raw: &[u8],
+    reply: &mut [u8; 257],
+    own: &mut [u8; 257],
+    room: &mut [u8],
+) -> FlatRan
+    ensures { λ r. ⌜ Flat-run-done link (now (reply .entry)) (now (own .entry)) (now (raw .entry)) (now (room .entry)) r (now (reply .exit)) (now (own .exit)) (now (room .exit)) ⌝ }
+{
+    if has_tags(link) {
+        return flat_ran(link, unflattened(link).run(raw, reply, own, room));
+    }
+    unknown(link, raw.len(), room.len())
+}
+
+// One raw byte, as a slice: so `Link::run` stays the one caller of `Link::step`, which is what makes it fast. Where the loop wrote a note, that
+// is the answer: the notes' kinds are the answers' own.
+pub fn step(link: FlatLink, raw: u8, reply: &mut [u8; 257], own: &mut [u8; 257]) -> FlatTold
+    ensures { λ r. ⌜ Flat-step-done link (now (reply .entry)) (now (own .entry)) raw r (now (reply .exit)) (now (own .exit)) ⌝ }
+{
+    let one = [raw];
+    let mut note = [0u8; 5];
+    let ran = run(link, &one, reply, own, &mut note);
+    let told = ran.told;
+    if ran.noted == 0 {
+        return told;
+    }
+    let next = told.link;
+    FlatTold {
+        link: next,
+        length: 0,
+        kind: note[0],
+        first: note[1],
+        second: note[2],
+        third: note[3],
+        fourth: note[4],
+    }
+}
+
+// The loop's flat result, beside the record given.
+fn flat_ran(given: FlatLink, ran: Ran) -> FlatRan
+    ensures { λ r. ⌜ r ≡ flatRan given ran ⌝ }
+{
+    let answer = ran.answer;
+    let next = ran.link;
+    FlatRan {
+        told: flat_told(flattened(given, next), answer),
+        used: ran.used,
+        noted: ran.noted,
+    }
+}
+
+// The loop over so many raw bytes with so much room, of a record whose numbers are out of range: too little room comes first, and no bytes
+// need more.
+fn unknown(link: FlatLink, bytes: usize, room: usize) -> FlatRan
+    ensures { λ r. ⌜ r ≡ flatUnknown link bytes room ⌝ }
+{
+    if room / 5 < bytes {
+        return unnoted(flat_told(link, Answer::Refused(8)), 0);
+    }
+    if bytes == 0 {
+        return unnoted(flat_told(link, Answer::More), 0);
+    }
+    unnoted(flat_told(link, Answer::Refused(7)), 1)
+}
+
+fn unnoted(told: FlatTold, used: usize) -> FlatRan
+    ensures { λ r. ⌜ r ≡ ranWith told used ⌝ }
+{
+    FlatRan {
+        told: told,
+        used: used,
+        noted: 0,
+    }
+}
+
+// The flat result of an answer.
+fn flat_told(link: FlatLink, answer: Answer) -> FlatTold
+    ensures { λ r. ⌜ r ≡ flatTold link answer ⌝ }
+{
+    match answer {
+        Answer::More => told(link, 0, 0, 0),
+        Answer::Character(b) => told(link, 1, b, 0),
+        Answer::Reply(n) => told(link, 5, 0, n),
+        Answer::EscapeState(on) => told(link, 2, flag_number(0, on), 0),
+        Answer::Event { y, x, a } => FlatTold {
+            link: link,
+            length: 0,
+            kind: 3,
+            first: y,
+            second: x,
+            third: a,
+            fourth: 0,
+        },
+        Answer::Address { b3, b2, b1, b0 } => FlatTold {
+            link: link,
+            length: 0,
+            kind: 4,
+            first: b3,
+            second: b2,
+            third: b1,
+            fourth: b0,
+        },
+        Answer::Error { number, length } => told(link, 6, number, length),
+        Answer::Restart => told(link, 7, 0, 0),
+        Answer::Refused(n) => told(link, 8, n, 0),
+    }
+}
+
+fn told(link: FlatLink, kind: u8, first: u8, length: usize) -> FlatTold
+    ensures { λ r. ⌜ r ≡ toldWith link kind first length ⌝ }
+{
+    FlatTold {
+        link: link,
+        length: length,
+        kind: kind,
+        first: first,
+        second: 0,
+        third: 0,
+        fourth: 0,
+    }
+}
+
+// The flat result of a begun call.
+fn flat_begun(link: FlatLink, begun: Begun) -> FlatBegun
+    ensures { λ r. ⌜ r ≡ flatBegun link (begunOf begun) ⌝ }
+{
+    match begun {
+        Begun::Waits => FlatBegun {
+            link: link,
+            kind: 0,
+            answer: 0,
+        },
+        Begun::Complete => FlatBegun {
+            link: link,
+            kind: 1,
+            answer: 0,
+        },
+        Begun::Denied(n) => FlatBegun {
+            link: link,
+            kind: 2,
+            answer: n,
+        },
+    }
+}
+
+// Whether the numbers of what waits and of the action are in range.
+fn has_tags(link: FlatLink) -> bool
+    ensures { λ r. ⌜ r ≡ tagsOk link ⌝ }
+{
+    if link.wait <= 13 {
+        return link.action <= 3;
+    }
+    false
+}
+
+// The link of a flat record, and its parts by number.
+fn unflattened(link: FlatLink) -> Link
+    ensures { λ r. ⌜ r ≡ linkOf link ⌝ }
+{
+    Link {
+        wait: wait_at(link.wait, link.out_length),
+        got: link.got,
+        escape: link.escape != 0,
+        doing: doing_at(link.action),
+        held: link.held,
+        stopped: link.stopped != 0,
+    }
+}
+
+fn wait_at(n: u8, out_length: u8) -> Wait
+    ensures { λ r. ⌜ r ≡ waitAt n «out_length» ⌝ }
+{
+    if n == 0 {
+        return Wait::Idle;
+    }
+    Wait::Waiting(kind_at(n - 1, out_length))
+}
+
+fn doing_at(n: u8) -> Doing
+    ensures { λ r. ⌜ r ≡ doingAt n ⌝ }
+{
+    if n == 0 {
+        return Doing::Quiet;
+    }
+    if n == 1 {
+        return Doing::Open(Action::Error);
+    }
+    if n == 2 {
+        return Doing::Open(Action::Event);
+    }
+    Doing::Open(Action::Address)
+}
+
+// The flat record of a link, beside the record given: a number of that one that still stands for the same is kept.
+fn flattened(given: FlatLink, link: Link) -> FlatLink
+    ensures { λ r. ⌜ r ≡ flatOf given link ⌝ }
+{
+    let wait = link.wait;
+    let doing = link.doing;
+    FlatLink {
+        got: link.got,
+        held: link.held,
+        wait: wait_number(wait),
+        out_length: wait_out(given.out_length, wait),
+        escape: flag_number(given.escape, link.escape),
+        action: doing_number(doing),
+        stopped: flag_number(given.stopped, link.stopped),
+    }
+}
+
+fn wait_number(wait: Wait) -> u8
+    ensures { λ r. ⌜ r ≡ waitNumber wait ⌝ }
+{
+    match wait {
+        Wait::Idle => 0,
+        Wait::Waiting(kind) => kind_number(kind) + 1,
+    }
+}
+
+fn wait_out(given: u8, wait: Wait) -> u8
+    ensures { λ r. ⌜ r ≡ waitOut given wait ⌝ }
+{
+    match wait {
+        Wait::Idle => given,
+        Wait::Waiting(kind) => kind_out(given, kind),
+    }
+}
+
+fn doing_number(doing: Doing) -> u8
+    ensures { λ r. ⌜ r ≡ doingNumber doing ⌝ }
+{
+    match doing {
+        Doing::Quiet => 0,
+        Doing::Open(action) => match action {
+            Action::Error => 1,
+            Action::Event => 2,
+            Action::Address => 3,
+        },
+    }
+}
+
+// A flag that is set keeps the number given where that one says so.
+fn flag_number(given: u8, set: bool) -> u8
+    ensures { λ r. ⌜ r ≡ flagNumber given set ⌝ }
+{
+    if set {
+        if given == 0 { 1 } else { given }
+    } else {
+        0
+    }
+}
+
+// The kind of a finished request: see `kind::CallKind::of_request`.
+pub fn kind_of(code: u8, body: &[u8]) -> FlatKind
+    ensures { λ r. ⌜ Flat-kind-done code (now (body .entry)) r ⌝ }
+{
+    let kind = CallKind::of_request(code, body);
+    FlatKind {
+        call: kind_number(kind),
+        out_length: kind_out(0, kind),
+    }
+}
+
+// The kind of a number, with OSWORD's out length.
+fn kind_at(n: u8, out_length: u8) -> CallKind
+    ensures { λ r. ⌜ r ≡ kindAt n «out_length» ⌝ }
+{
+    match n {
+        0 => CallKind::Osrdch,
+        1 => CallKind::Oscli,
+        2 => CallKind::OsbyteLow,
+        3 => CallKind::OsbyteHigh,
+        4 => CallKind::Osword(out_length),
+        5 => CallKind::Osword0,
+        6 => CallKind::Osargs,
+        7 => CallKind::Osbget,
+        8 => CallKind::Osbput,
+        9 => CallKind::OsfindClose,
+        10 => CallKind::OsfindOpen,
+        11 => CallKind::Osfile,
+        _ => CallKind::Osgbpb,
+    }
+}
+
+// The number of a kind, and its out length, or the one given.
+fn kind_number(kind: CallKind) -> u8
+    ensures { λ r. ⌜ (r ≡ kindNumber kind) × (r ≤ 12) ⌝ }
+{
+    match kind {
+        CallKind::Osrdch => 0,
+        CallKind::Oscli => 1,
+        CallKind::OsbyteLow => 2,
+        CallKind::OsbyteHigh => 3,
+        CallKind::Osword(_) => 4,
+        CallKind::Osword0 => 5,
+        CallKind::Osargs => 6,
+        CallKind::Osbget => 7,
+        CallKind::Osbput => 8,
+        CallKind::OsfindClose => 9,
+        CallKind::OsfindOpen => 10,
+        CallKind::Osfile => 11,
+        CallKind::Osgbpb => 12,
+    }
+}
+
+fn kind_out(given: u8, kind: CallKind) -> u8
+    ensures { λ r. ⌜ r ≡ kindOut given kind ⌝ }
+{
+    match kind {
+        CallKind::Osrdch => given,
+        CallKind::Oscli => given,
+        CallKind::OsbyteLow => given,
+        CallKind::OsbyteHigh => given,
+        CallKind::Osword(n) => n,
+        CallKind::Osword0 => given,
+        CallKind::Osargs => given,
+        CallKind::Osbget => given,
+        CallKind::Osbput => given,
+        CallKind::OsfindClose => given,
+        CallKind::OsfindOpen => given,
+        CallKind::Osfile => given,
+        CallKind::Osgbpb => given,
+    }
+}
+
+// Writes a reply: see `reply::write_reply`. Another call or reply is a field that breaks its rule. A number that the reply does not have is not
+// read; a carry is set where its number is not 0.
+pub fn write_reply(
+    call: u8,
+    out_length: u8,
+    reply: u8,
+    carry: u8,
+    x: u8,
+    y: u8,
+    a: u8,
+    block: &[u8],
+    text: &[u8],
+    out: &mut [u8],
+) -> FlatWritten
+    ensures { λ r. ⌜ Flat-reply-done call (kindAt call «out_length») reply (replyAt reply carry x y a) (now (block .entry)) (now (text .entry)) (now (out .entry)) r (now (out .exit)) ⌝ }
+{
+    if reply_known(call, reply) {
+        let given = reply_at(reply, carry, x, y, a);
+        let kind = kind_at(call, out_length);
+        return flat_written(reply::write_reply(kind, given, block, text, out));
+    }
+    if Text::LIMIT < text.len() {
+        return flat_written(Written::TooLong);
+    }
+    flat_written(Written::BadField)
+}
+
+// Whether the numbers of the call and of the reply are in range.
+fn reply_known(call: u8, reply: u8) -> bool
+    ensures { λ r. ⌜ r ≡ replyKnown call reply ⌝ }
+{
+    if call <= FlatKind::LAST {
+        return reply <= 9;
+    }
+    false
+}
+
+// The reply of a number, with the numbers that it has.
+fn reply_at(n: u8, carry: u8, x: u8, y: u8, a: u8) -> Reply
+    ensures { λ r. ⌜ r ≡ replyAt n carry x y a ⌝ }
+{
+    let set = carry != 0;
+    match n {
+        0 => Reply::CarryA { carry: set, a: a },
+        1 => Reply::Ack(set),
+        2 => Reply::Byte(a),
+        3 => Reply::CarryYX {
+            carry: set,
+            y: y,
+            x: x,
+        },
+        4 => Reply::Block,
+        5 => Reply::EscapedLine,
+        6 => Reply::ReadLine,
+        7 => Reply::ABlock(a),
+        8 => Reply::Plain,
+        _ => Reply::BlockCarryA { carry: set, a: a },
+    }
+}
+
+// The flat result of a writer.
+pub fn flat_written(written: Written) -> FlatWritten
+    ensures { λ r. ⌜ r ≡ flatWritten written ⌝ }
+{
+    match written {
+        Written::Done(n) => FlatWritten {
+            length: n,
+            answer: 0,
+        },
+        Written::TooLong => FlatWritten {
+            length: 0,
+            answer: 6,
+        },
+        Written::BadField => FlatWritten {
+            length: 0,
+            answer: 9,
+        },
+        Written::NoRoom => FlatWritten {
+            length: 0,
+            answer: 8,
+        },
+    }
+}
+
+// The fields of a finished reply: see `reply::read_reply`. The reply to a call that does not exist has the number 10 and nothing else.
+pub fn read_reply(call: u8, out_length: u8, bytes: &[u8]) -> FlatGiven
+    ensures { λ r. ⌜ Flat-read-done call (kindAt call «out_length») (now (bytes .entry)) r ⌝ }
+{
+    if call <= FlatKind::LAST {
+        let kind = kind_at(call, out_length);
+        return flat_given(reply::read_reply(kind, bytes));
+    }
+    FlatGiven {
+        block_start: 0,
+        block_length: 0,
+        text_start: 0,
+        text_length: 0,
+        reply: 10,
+        carry: 0,
+        x: 0,
+        y: 0,
+        a: 0,
+    }
+}
+
+// The flat record of a reply read.
+fn flat_given(given: Given) -> FlatGiven
+    ensures { λ r. ⌜ r ≡ flatGiven given ⌝ }
+{
+    let reply = given.reply;
+    match reply {
+        Reply::CarryA { carry, a } => numbered(given, 0, carry, 0, 0, a),
+        Reply::Ack(set) => numbered(given, 1, set, 0, 0, 0),
+        Reply::Byte(b) => numbered(given, 2, false, 0, 0, b),
+        Reply::CarryYX { carry, y, x } => numbered(given, 3, carry, x, y, 0),
+        Reply::Block => numbered(given, 4, false, 0, 0, 0),
+        Reply::EscapedLine => numbered(given, 5, false, 0, 0, 0),
+        Reply::ReadLine => numbered(given, 6, false, 0, 0, 0),
+        Reply::ABlock(a) => numbered(given, 7, false, 0, 0, a),
+        Reply::Plain => numbered(given, 8, false, 0, 0, 0),
+        Reply::BlockCarryA { carry, a } => numbered(given, 9, carry, 0, 0, a),
+    }
+}
+
+fn numbered(given: Given, reply: u8, carry: bool, x: u8, y: u8, a: u8) -> FlatGiven
+    ensures { λ r. ⌜ r ≡ givenWith given reply carry x y a ⌝ }
+{
+    FlatGiven {
+        block_start: given.block_start,
+        block_length: given.block_length,
+        text_start: given.text_start,
+        text_length: given.text_length,
+        reply: reply,
+        carry: flag_number(0, carry),
+        x: x,
+        y: y,
+        a: a,
+    }
+}
