@@ -13,16 +13,16 @@ const INSIDE: u8 = 1;
 const STOPPED: u8 = 2;
 
 // Refusals.
-const NOT_CARRIED: u8 = 4;
-const MARK_INSIDE: u8 = 5;
-const LONG_STRING: u8 = 6;
-const READER_STOPPED: u8 = 7;
-const SHORT_BUFFER: u8 = 8;
-const BROKEN_RULE: u8 = 9;
+pub const NOT_CARRIED: u8 = 4;
+pub const MARK_INSIDE: u8 = 5;
+pub const LONG_STRING: u8 = 6;
+pub const READER_STOPPED: u8 = 7;
+pub const SHORT_BUFFER: u8 = 8;
+pub const BROKEN_RULE: u8 = 9;
 
-const ESCAPE: u8 = 0x9B;
-const STRING_END: u8 = 0x0D;
-const LONGEST_STRING: usize = 255;
+pub const ESCAPE: u8 = 0x9B;
+pub const STRING_END: u8 = 0x0D;
+pub const LONGEST_STRING: usize = 255;
 const FILE_BLOCK: usize = 16;
 
 const LAST_CODE: u8 = 0x16;
@@ -37,14 +37,14 @@ pub const BODY: usize = 273;
 // ---- The escape layer ----
 
 /// What a raw byte of the serial carrier is, after an escape or not.
-enum Unit {
+pub enum Unit {
     Escape,
     Data(u8),
     Mark(u8),
 }
 
 #[inline]
-fn unit(escape: bool, raw: u8) -> Unit {
+pub fn unit(escape: bool, raw: u8) -> Unit {
     match (escape, raw == ESCAPE) {
         (false, true) => Unit::Escape,
         (true, false) => Unit::Mark(raw),
@@ -237,7 +237,7 @@ fn is_last(code: u8, count: usize, byte: u8, body: &[u8; BODY]) -> Result<bool, 
 
 /// Whether `byte` ends a string that has `count` bytes so far.
 #[inline]
-fn ends_string(count: usize, byte: u8) -> Result<bool, u8> {
+pub fn ends_string(count: usize, byte: u8) -> Result<bool, u8> {
     match byte == STRING_END {
         true if count <= LONGEST_STRING => Ok(true),
         false if count < LONGEST_STRING => Ok(false),
@@ -373,26 +373,33 @@ impl Request<'_> {
         let head = &fields.head[..fields.head_length];
         let end: &[u8] = if fields.string { &[STRING_END] } else { &[] };
         let parts = [head, block, text, end, fields.tail.as_slice()];
-        let plain: usize = parts.iter().map(|part| part.len()).sum();
         if self.carrier == PARALLEL {
-            let size = 1 + plain;
+            let size = 1 + parts.iter().map(|part| part.len()).sum::<usize>();
             let out = out.get_mut(..size).ok_or(SHORT_BUFFER)?;
             out[0] = fields.code;
             put_plain(&mut out[1..], parts);
             return Ok(size);
         }
-        let doubled: usize = parts.iter().map(|part| escapes(part)).sum();
-        let size = 2 + plain + doubled;
-        let out = out.get_mut(..size).ok_or(SHORT_BUFFER)?;
-        out[0] = ESCAPE;
-        out[1] = self.style << 5 | fields.code;
-        if doubled == 0 {
-            put_plain(&mut out[2..], parts);
-        } else {
-            put_escaped(&mut out[2..], parts);
-        }
-        Ok(size)
+        put_serial(out, &[ESCAPE, self.style << 5 | fields.code], parts)
     }
+}
+
+/// Puts raw bytes and then data bytes to the start of `out`: the length, or the
+/// refusal where they do not fit.
+#[inline]
+pub fn put_serial(out: &mut [u8], heading: &[u8], parts: [&[u8]; 5]) -> Result<usize, u8> {
+    let plain: usize = parts.iter().map(|part| part.len()).sum();
+    let doubled: usize = parts.iter().map(|part| escapes(part)).sum();
+    let size = heading.len() + plain + doubled;
+    let out = out.get_mut(..size).ok_or(SHORT_BUFFER)?;
+    let (start, rest) = out.split_at_mut(heading.len());
+    start.copy_from_slice(heading);
+    if doubled == 0 {
+        put_plain(rest, parts);
+    } else {
+        put_escaped(rest, parts);
+    }
+    Ok(size)
 }
 
 fn put_plain(mut out: &mut [u8], parts: [&[u8]; 5]) {

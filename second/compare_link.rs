@@ -1,0 +1,1785 @@
+//! Compares the proved library's link with the second program: the same streams,
+//! begun calls, pieces of streams and single bytes go to both, and everything
+//! they give is compared. Prints one line for each property, then `N passed, M
+//! failed`.
+
+use std::process::ExitCode;
+
+#[path = "inputs.rs"]
+mod inputs;
+
+// The link and its loop are compared here, not the replies' fields.
+#[allow(dead_code)]
+#[path = "interface.rs"]
+mod interface;
+
+#[allow(dead_code)]
+#[path = "link.rs"]
+mod link;
+
+use inputs::{Laden, Random, Report, Row, difference, escaped, every, most};
+use interface::{
+    NEED_MORE, REFUSED, REPLY, RESTART, TubeLink, TubeRan, TubeTold, tube_begin, tube_link,
+    tube_link_step, tube_run,
+};
+use link::{
+    ADDRESS, Begun, CALLS, ERROR, EVENT, LENT, Link, NO_ACTION, NOTE, OSRDCH, OSWORD, OSWORD_0,
+    Told, WAIT_BLOCK,
+};
+
+impl TubeLink {
+    fn from_second(link: &Link) -> TubeLink {
+        TubeLink {
+            got: link.got,
+            held: link.held,
+            wait: link.wait,
+            out_length: link.out_length,
+            escape: link.escape as u8,
+            action: link.action,
+            stopped: link.stopped as u8,
+        }
+    }
+
+    fn to_second(self) -> Link {
+        Link {
+            wait: self.wait,
+            out_length: self.out_length,
+            got: self.got,
+            action: self.action,
+            held: self.held,
+            escape: self.escape != 0,
+            stopped: self.stopped != 0,
+        }
+    }
+
+    /// The record after accepted bytes, where the record given had the out length
+    /// `given`. The number of an escape seen is free; where no OSWORD waits the out
+    /// length stays as it was given.
+    fn shows(&self, link: &Link, given: u8) -> bool {
+        let expected = TubeLink {
+            escape: match link.escape {
+                true => self.escape.max(1),
+                false => 0,
+            },
+            out_length: match link.wait {
+                WAIT_BLOCK => link.out_length,
+                _ => given,
+            },
+            ..TubeLink::from_second(link)
+        };
+        *self == expected
+    }
+}
+
+impl TubeTold {
+    fn values(&self) -> [u8; 4] {
+        [self.first, self.second, self.third, self.fourth]
+    }
+}
+
+/// The kind, values and length of the second program's answer.
+fn numbers(told: Told) -> (u8, [u8; 4], usize) {
+    if let Some([kind, values @ ..]) = told.note() {
+        return (kind, values, 0);
+    }
+    match told {
+        Told::Reply(length) => (REPLY, [0; 4], length),
+        Told::Error { number, length } => (interface::ERROR, [number, 0, 0, 0], length),
+        Told::Restart => (RESTART, [0; 4], 0),
+        Told::Refused(number) => (REFUSED, [number, 0, 0, 0], 0),
+        _ => (NEED_MORE, [0; 4], 0),
+    }
+}
+
+/// The most own bytes of an action; 1 where only 0 is within the limits.
+fn most_own(action: u8) -> usize {
+    *[1, LENT, 3, 4].get(action as usize).unwrap_or(&1)
+}
+
+// ---- Properties ----
+
+#[derive(Clone, Copy)]
+enum Property {
+    Fresh,
+    StreamKind,
+    StreamValues,
+    StreamLength,
+    StreamRecord,
+    StreamRefused,
+    StreamStopped,
+    StreamReply,
+    StreamOwn,
+    StreamBegunKind,
+    StreamBegunRecord,
+    StepKind,
+    StepValues,
+    StepLength,
+    StepRecord,
+    StepRefused,
+    StepStopped,
+    StepReply,
+    StepOwn,
+    StepBegunKind,
+    StepBegunRecord,
+    RunKind,
+    RunValues,
+    RunLength,
+    RunUsed,
+    RunNoted,
+    RunNotes,
+    RunBeyond,
+    RunRecord,
+    RunKept,
+    RunReply,
+    RunOwn,
+    RunShort,
+    RunEmpty,
+    ActionsReply,
+    ActionsNotes,
+    ActionsEnd,
+    ActionsPieces,
+    ActionsError,
+    ActionsRestart,
+    InputReplies,
+    InputActions,
+    InputRefusals,
+    InputCharacters,
+    InputMarks,
+    InputEscaped,
+    InputLengths,
+    InputBegun,
+    InputLate,
+    InputResets,
+    InputRecords,
+    InputBeyond,
+    InputNumbers,
+    InputRuns,
+}
+
+impl From<Property> for usize {
+    fn from(property: Property) -> usize {
+        property as usize
+    }
+}
+
+#[rustfmt::skip]
+const PROPERTIES: [Row<Property>; 54] = [
+    (Property::Fresh, "fresh link", 1),
+    (Property::StreamKind, "stream: kind of answer", 40 * STREAMS),
+    (Property::StreamValues, "stream: values of the answer", 40 * STREAMS),
+    (Property::StreamLength, "stream: length of the reply or text", 40 * STREAMS),
+    (Property::StreamRecord, "stream: record after an accepted byte", 30 * STREAMS),
+    (Property::StreamRefused, "stream: a refusal stops the record given", STREAMS / 4),
+    (Property::StreamStopped, "stream: a stopped record is given back", STREAMS / 2),
+    (Property::StreamReply, "stream: every byte lent for the reply", 40 * STREAMS),
+    (Property::StreamOwn, "stream: every byte lent for the action", 40 * STREAMS),
+    (Property::StreamBegunKind, "stream: answer to a begun call", 2 * STREAMS),
+    (Property::StreamBegunRecord, "stream: record of a begun call", 2 * STREAMS),
+    (Property::StepKind, "step: kind of answer", STEPS),
+    (Property::StepValues, "step: values of the answer", STEPS),
+    (Property::StepLength, "step: length of the reply or text", STEPS),
+    (Property::StepRecord, "step: record after an accepted byte", STEPS / 4),
+    (Property::StepRefused, "step: a refusal stops the record given", STEPS / 20),
+    (Property::StepStopped, "step: a stopped record is given back", STEPS / 4),
+    (Property::StepReply, "step: every byte lent for the reply", STEPS),
+    (Property::StepOwn, "step: every byte lent for the action", STEPS),
+    (Property::StepBegunKind, "step: answer to a begun call", STEPS / 2),
+    (Property::StepBegunRecord, "step: record of a begun call", STEPS / 2),
+    (Property::RunKind, "run: kind of the last answer", 4 * STREAMS),
+    (Property::RunValues, "run: values of the last answer", 4 * STREAMS),
+    (Property::RunLength, "run: length of the reply or text", 4 * STREAMS),
+    (Property::RunUsed, "run: raw bytes used", 4 * STREAMS),
+    (Property::RunNoted, "run: number of notes", 4 * STREAMS),
+    (Property::RunNotes, "run: the notes", STREAMS),
+    (Property::RunBeyond, "run: room beyond the notes stays", 4 * STREAMS),
+    (Property::RunRecord, "run: record after", 4 * STREAMS),
+    (Property::RunKept, "run: a record that took no byte is given back", STREAMS / 2),
+    (Property::RunReply, "run: every byte lent for the reply", 4 * STREAMS),
+    (Property::RunOwn, "run: every byte lent for the action", 4 * STREAMS),
+    (Property::RunShort, "run: room too short by one byte or more", STREAMS / 2),
+    (Property::RunEmpty, "run: no raw bytes", STREAMS / 10),
+    (Property::ActionsReply, "actions: the reply is the same as without them", TALKS),
+    (Property::ActionsNotes, "actions: each is noted, in order", TALKS),
+    (Property::ActionsEnd, "actions: the reply ends at its last byte, not before", TALKS),
+    (Property::ActionsPieces, "actions: the same in two pieces, cut anywhere", TALKS),
+    (Property::ActionsError, "actions: an error ends the call", TALKS / 2),
+    (Property::ActionsRestart, "actions: a restart ends the call", TALKS / 8),
+    (Property::InputReplies, "inputs: finished replies of each call", 1),
+    (Property::InputActions, "inputs: each action idle and in each call", 1),
+    (Property::InputRefusals, "inputs: each refusal in each place", 1),
+    (Property::InputCharacters, "inputs: each character", 1),
+    (Property::InputMarks, "inputs: each mark idle, waiting and in each action", 1),
+    (Property::InputEscaped, "inputs: &9B at each place of replies and actions", 1),
+    (Property::InputLengths, "inputs: each length of blocks, lines and texts", 1),
+    (Property::InputBegun, "inputs: each call begun in each action and pair", 1),
+    (Property::InputLate, "inputs: errors and pairs around a begun call", 1),
+    (Property::InputResets, "inputs: resets in each state", 1),
+    (Property::InputRecords, "inputs: records of each call, action and count", 1),
+    (Property::InputBeyond, "inputs: records beyond each limit", 1),
+    (Property::InputNumbers, "inputs: each escape and stopped number", 1),
+    (Property::InputRuns, "inputs: each start and end of a run", 1),
+];
+
+type Compared = Report<Property>;
+
+/// The properties that one compared byte or begun call counts for.
+struct Group {
+    kind: Property,
+    values: Property,
+    length: Property,
+    record: Property,
+    refused: Property,
+    stopped: Property,
+    reply: Property,
+    own: Property,
+    begun_kind: Property,
+    begun_record: Property,
+}
+
+const STREAM: Group = Group {
+    kind: Property::StreamKind,
+    values: Property::StreamValues,
+    length: Property::StreamLength,
+    record: Property::StreamRecord,
+    refused: Property::StreamRefused,
+    stopped: Property::StreamStopped,
+    reply: Property::StreamReply,
+    own: Property::StreamOwn,
+    begun_kind: Property::StreamBegunKind,
+    begun_record: Property::StreamBegunRecord,
+};
+
+const STEP: Group = Group {
+    kind: Property::StepKind,
+    values: Property::StepValues,
+    length: Property::StepLength,
+    record: Property::StepRecord,
+    refused: Property::StepRefused,
+    stopped: Property::StepStopped,
+    reply: Property::StepReply,
+    own: Property::StepOwn,
+    begun_kind: Property::StepBegunKind,
+    begun_record: Property::StepBegunRecord,
+};
+
+// ---- Lent bytes ----
+
+const GUARD: usize = 16;
+
+/// Lent bytes between guard bytes.
+type Lent = [u8; GUARD + LENT + GUARD];
+
+#[derive(Clone, Copy, PartialEq)]
+struct Arrays {
+    reply: Lent,
+    own: Lent,
+}
+
+fn lent(bytes: &mut Lent) -> &mut [u8; LENT] {
+    (&mut bytes[GUARD..GUARD + LENT]).try_into().unwrap()
+}
+
+impl Arrays {
+    fn random(random: &mut Random) -> Arrays {
+        let mut arrays = Arrays {
+            reply: [0; GUARD + LENT + GUARD],
+            own: [0; GUARD + LENT + GUARD],
+        };
+        random.fill(&mut arrays.reply);
+        random.fill(&mut arrays.own);
+        arrays
+    }
+
+    fn pointers(&mut self) -> (*mut u8, *mut u8) {
+        let Arrays { reply, own } = self;
+        (lent(reply).as_mut_ptr(), lent(own).as_mut_ptr())
+    }
+}
+
+/// The library's record and lent bytes, and the second program's.
+struct Pair {
+    record: TubeLink,
+    library: Arrays,
+    link: Link,
+    second: Arrays,
+}
+
+impl Pair {
+    fn new(record: TubeLink, arrays: Arrays) -> Pair {
+        Pair {
+            record,
+            library: arrays,
+            link: record.to_second(),
+            second: arrays,
+        }
+    }
+
+    fn fresh(random: &mut Random) -> Pair {
+        Pair::new(unsafe { tube_link() }, Arrays::random(random))
+    }
+
+    fn reset(&mut self) {
+        self.record = unsafe { tube_link() };
+        self.link = Link::new();
+    }
+
+    /// Later bytes are compared from the same state again.
+    fn mend(&mut self, equal: bool) {
+        if !equal {
+            self.record = TubeLink::from_second(&self.link);
+            self.library = self.second;
+        }
+    }
+}
+
+// ---- What the inputs were ----
+
+const SETS: [&str; 2] = ["streams", "single steps"];
+
+const WAITS: usize = 1 + CALLS as usize;
+const ACTIONS: usize = 4;
+
+/// What the compared bytes of the streams (0) and single steps (1) have been.
+struct Seen {
+    /// By streams or steps and call.
+    finished: [[u64; CALLS as usize]; 2],
+    /// By streams or steps, what waits, and Escape state, event, address, error,
+    /// restart.
+    reported: [[[u64; 5]; WAITS]; 2],
+    /// By streams or steps, what waits, the open action and the number.
+    refused: [[[[u64; 8]; ACTIONS]; WAITS]; 2],
+    characters: [bool; 256],
+    /// While idle, while waiting, and inside each action.
+    marks: [[bool; 256]; 2 + ACTIONS],
+    /// &9B taken into a reply, by call and index, or an action.
+    escaped_reply: [[bool; LENT]; CALLS as usize],
+    escaped_own: [[bool; LENT]; ACTIONS],
+    /// Of OSWORD's replies, of lines and of texts.
+    lengths: [[bool; 256]; 3],
+    /// Calls that wait then, by streams or steps, open action, escape and call.
+    begun: [[[[u64; CALLS as usize]; 2]; ACTIONS]; 2],
+    /// By streams or steps: complete, refused with 7, with 12, no such call.
+    begun_otherwise: [[u64; 4]; 2],
+    /// Errors opened while idle that end a call; pairs that a call divides.
+    late: [u64; 2],
+    /// Waiting, in an action, in a pair, stopped.
+    resets: [u64; 4],
+    /// By what waits and count, and by action and count.
+    records: [[u64; LENT]; WAITS],
+    records_own: [[u64; LENT]; ACTIONS],
+    /// By the limits that a record is beyond.
+    beyond: [u64; FAULTS],
+    /// Numbers of an escape and of a stop.
+    escapes: [bool; 256],
+    stops: [bool; 256],
+    /// By the kind of the end, a refusal by 8 and its number.
+    run_ends: [u64; 17],
+    /// By what waits, open action and escape.
+    run_starts: [[[u64; 2]; ACTIONS]; WAITS],
+    notes: [u64; NOTE],
+    /// By the room that is left when each byte has its note.
+    rooms: [u64; 8],
+    /// With more notes than a byte and than two bytes can count.
+    long_runs: [u64; 2],
+}
+
+/// The faults that a record can have: a stop, tags out of range, counts that
+/// should be 0, those of each call and of each action.
+const FAULTS: usize = 5 + CALLS as usize + 3;
+
+impl Seen {
+    fn new() -> Box<Seen> {
+        Box::new(Seen {
+            finished: [[0; CALLS as usize]; 2],
+            reported: [[[0; 5]; WAITS]; 2],
+            refused: [[[[0; 8]; ACTIONS]; WAITS]; 2],
+            characters: [false; 256],
+            marks: [[false; 256]; 2 + ACTIONS],
+            escaped_reply: [[false; LENT]; CALLS as usize],
+            escaped_own: [[false; LENT]; ACTIONS],
+            lengths: [[false; 256]; 3],
+            begun: [[[[0; CALLS as usize]; 2]; ACTIONS]; 2],
+            begun_otherwise: [[0; 4]; 2],
+            late: [0; 2],
+            resets: [0; 4],
+            records: [[0; LENT]; WAITS],
+            records_own: [[0; LENT]; ACTIONS],
+            beyond: [0; FAULTS],
+            escapes: [false; 256],
+            stops: [false; 256],
+            run_ends: [0; 17],
+            run_starts: [[[0; 2]; ACTIONS]; WAITS],
+            notes: [0; NOTE],
+            rooms: [0; 8],
+            long_runs: [0; 2],
+        })
+    }
+
+    /// Notes an answer in a stream or a single step.
+    fn answer(&mut self, set: usize, before: &Link, told: Told) {
+        if before.stopped() {
+            self.refused[set][0][0][7] += 1;
+            return;
+        }
+        let (wait, action) = (before.wait as usize, before.action as usize);
+        match told {
+            Told::Reply(_) => self.finished[set][wait - 1] += 1,
+            Told::Escape(_) => self.reported[set][wait][0] += 1,
+            Told::Event(_) => self.reported[set][wait][1] += 1,
+            Told::Address(_) => self.reported[set][wait][2] += 1,
+            Told::Error { .. } => self.reported[set][wait][3] += 1,
+            Told::Restart => self.reported[set][wait][4] += 1,
+            Told::Refused(number) => self.refused[set][wait][action][number as usize] += 1,
+            Told::More | Told::Character(_) => {}
+        }
+    }
+
+    /// Notes a byte of a stream.
+    fn stream(&mut self, before: &Link, raw: u8, told: Told) {
+        self.answer(0, before, told);
+        if before.stopped() {
+            return;
+        }
+        let mark = before.escape && raw != 0x9B;
+        if mark {
+            let place = match (before.action, before.wait) {
+                (NO_ACTION, 0) => 0,
+                (NO_ACTION, _) => 1,
+                (action, _) => 1 + action as usize,
+            };
+            self.marks[place][raw as usize] = true;
+        } else if before.escape && !matches!(told, Told::Refused(_)) {
+            match (before.action, before.wait) {
+                (NO_ACTION, 0) => {}
+                (NO_ACTION, wait) => {
+                    self.escaped_reply[wait as usize - 1][before.got] = true;
+                }
+                (action, _) => self.escaped_own[action as usize][before.held] = true,
+            }
+        }
+        match (told, before.wait) {
+            (Told::Character(byte), _) => self.characters[byte as usize] = true,
+            (Told::Reply(length), WAIT_BLOCK) => self.lengths[0][length] = true,
+            (Told::Reply(length), 6) if length > 1 => self.lengths[1][length - 2] = true,
+            (Told::Error { length, .. }, _) => self.lengths[2][length] = true,
+            _ => {}
+        }
+    }
+
+    /// Notes a begun call in a stream or from any record.
+    fn begun(&mut self, set: usize, before: &Link, call: u8, begun: Begun) {
+        let otherwise = &mut self.begun_otherwise[set];
+        match begun {
+            Begun::Waits => {
+                let places = &mut self.begun[set][before.action as usize];
+                places[before.escape as usize][call as usize] += 1;
+            }
+            Begun::Complete => otherwise[0] += 1,
+            Begun::Refused(_) if call >= CALLS => otherwise[3] += 1,
+            Begun::Refused(7) => otherwise[1] += 1,
+            Begun::Refused(_) => otherwise[2] += 1,
+        }
+    }
+
+    fn reset(&mut self, link: &Link) {
+        if link.stopped() {
+            self.resets[3] += 1;
+            return;
+        }
+        self.resets[0] += (link.wait != 0) as u64;
+        self.resets[1] += (link.action != 0) as u64;
+        self.resets[2] += link.escape as u64;
+    }
+
+    /// Notes a single step.
+    fn step(&mut self, record: &TubeLink, told: Told) {
+        let link = record.to_second();
+        self.answer(1, &link, told);
+        self.stops[record.stopped as usize] = true;
+        if !link.stopped() {
+            self.escapes[record.escape as usize] = true;
+            self.records[link.wait as usize][link.got] += 1;
+            self.records_own[link.action as usize][link.held] += 1;
+            return;
+        }
+        // Counts only records with exactly one fault.
+        let mut faults = [false; FAULTS];
+        faults[0] = record.stopped != 0;
+        faults[1] = record.wait as usize >= WAITS;
+        faults[2] = record.action as usize >= ACTIONS;
+        let reply = record.got >= most(record.wait, record.out_length);
+        match record.wait as usize {
+            0 => faults[3] = reply,
+            wait @ 1..WAITS => faults[4 + wait] = reply,
+            _ => {}
+        }
+        let own = record.held >= most_own(record.action);
+        match record.action as usize {
+            0 => faults[4] = own,
+            action @ 1..ACTIONS => faults[4 + CALLS as usize + action] = own,
+            _ => {}
+        }
+        if faults.iter().filter(|&&fault| fault).count() == 1 {
+            let only = faults.iter().position(|&fault| fault).unwrap();
+            self.beyond[only] += 1;
+        }
+    }
+
+    fn run_start(&mut self, link: &Link) {
+        if !link.stopped() {
+            let starts = &mut self.run_starts[link.wait as usize];
+            starts[link.action as usize][link.escape as usize] += 1;
+        }
+    }
+
+    fn run_end(&mut self, told: Told, notes: &[u8], room: usize) {
+        let (kind, [first, ..], _) = numbers(told);
+        let end = match kind {
+            REFUSED => kind + first,
+            _ => kind,
+        };
+        self.run_ends[end as usize] += 1;
+        for note in notes.chunks(NOTE) {
+            self.notes[note[0] as usize] += 1;
+        }
+        self.rooms[room.min(7)] += 1;
+        self.long_runs[0] += (notes.len() > 256 * NOTE) as u64;
+        self.long_runs[1] += (notes.len() > 65_536 * NOTE) as u64;
+    }
+
+    fn report(&self, report: &mut Compared) {
+        report.need(Property::InputReplies, self.few_replies());
+        report.need(Property::InputActions, self.few_actions());
+        report.need(Property::InputRefusals, self.few_refusals());
+        let few_characters = (0..256).find(|&byte| !self.characters[byte]);
+        report.need(
+            Property::InputCharacters,
+            few_characters.map(|byte| format!("characters &{byte:02X}")),
+        );
+        report.need(Property::InputMarks, self.few_marks());
+        report.need(Property::InputEscaped, self.few_escaped());
+        report.need(Property::InputLengths, self.few_lengths());
+        report.need(Property::InputBegun, self.few_begun());
+        let few_late = match self.late {
+            [..2000, _] => Some("errors opened while idle that end a call".to_string()),
+            [_, ..2000] => Some("pairs of &9B with a call begun inside".to_string()),
+            _ => None,
+        };
+        report.need(Property::InputLate, few_late);
+        const STATES: [&str; 4] = ["waiting", "in an action", "in a pair", "stopped"];
+        let few_resets = (0..4).find(|&state| self.resets[state] < 2000);
+        report.need(
+            Property::InputResets,
+            few_resets.map(|state| format!("resets of a link {}", STATES[state])),
+        );
+        report.need(Property::InputRecords, self.few_records());
+        let few_beyond = (0..FAULTS).find(|&limit| self.beyond[limit] < 1000);
+        report.need(
+            Property::InputBeyond,
+            few_beyond.map(|limit| format!("records beyond limit {limit} alone")),
+        );
+        let few_numbers = (0..256).find(|&at| !self.escapes[at] || !self.stops[at]);
+        report.need(
+            Property::InputNumbers,
+            few_numbers.map(|at| format!("escape or stopped numbers {at}")),
+        );
+        report.need(Property::InputRuns, self.few_runs());
+    }
+
+    fn few_replies(&self) -> Option<String> {
+        let few =
+            every(1, 2, CALLS as usize).find(|&(_, set, call)| self.finished[set][call] < 1000);
+        few.map(|(_, set, call)| format!("replies to call {call} in {}", SETS[set]))
+    }
+
+    fn few_actions(&self) -> Option<String> {
+        const NAMES: [&str; 5] = ["Escape states", "events", "addresses", "errors", "restarts"];
+        let few =
+            every(2, WAITS, 5).find(|&(set, wait, action)| self.reported[set][wait][action] < 100);
+        few.map(|(set, wait, action)| format!("{} at {wait} in {}", NAMES[action], SETS[set]))
+    }
+
+    fn few_refusals(&self) -> Option<String> {
+        let few = every(2 * WAITS, ACTIONS, 8).find(|&(place, action, number)| {
+            let (set, wait) = (place / WAITS, place % WAITS);
+            let possible = match (number, action) {
+                (4, 0) | (6, 1) => true,
+                (5, _) => action != 0,
+                (6, 0) => wait == 1 + OSWORD_0 as usize,
+                (7, 0) => wait == 0,
+                _ => false,
+            };
+            possible && self.refused[set][wait][action][number] < 100
+        });
+        few.map(|(place, action, number)| {
+            let (set, wait) = (place / WAITS, place % WAITS);
+            format!(
+                "refusals {number} at {wait}, action {action}, in {}",
+                SETS[set]
+            )
+        })
+    }
+
+    fn few_marks(&self) -> Option<String> {
+        const PLACES: [&str; 5] = ["idle", "waiting", "error", "event", "address"];
+        let few =
+            every(1, 5, 256).find(|&(_, place, mark)| mark != 0x9B && !self.marks[place][mark]);
+        few.map(|(_, place, mark)| format!("marks &{mark:02X}, {}", PLACES[place]))
+    }
+
+    fn few_escaped(&self) -> Option<String> {
+        // The last byte of a longest line or text is its end.
+        let limit = |most: usize| if most == LENT { LENT - 1 } else { most };
+        let reply = every(1, CALLS as usize, LENT).find(|&(_, call, at)| {
+            let most = limit(most(1 + call as u8, 255));
+            at < most && !self.escaped_reply[call][at]
+        });
+        let own = every(1, ACTIONS, LENT).find(|&(_, action, at)| {
+            let most = limit(most_own(action as u8));
+            action != 0 && at < most && !self.escaped_own[action][at]
+        });
+        let reply = reply.map(|(_, call, at)| format!("&9B at {at} of the reply to call {call}"));
+        let own = own.map(|(_, action, at)| format!("&9B at {at} of action {action}"));
+        reply.or(own)
+    }
+
+    fn few_lengths(&self) -> Option<String> {
+        const NAMES: [&str; 3] = ["OSWORD replies", "lines", "texts"];
+        let few = every(1, 3, 256)
+            .find(|&(_, list, length)| (list, length) != (0, 0) && !self.lengths[list][length]);
+        few.map(|(_, list, length)| format!("{} of {length} bytes", NAMES[list]))
+    }
+
+    fn few_begun(&self) -> Option<String> {
+        let few = every(2, ACTIONS * 2, CALLS as usize)
+            .find(|&(set, place, call)| self.begun[set][place / 2][place % 2][call] < 100);
+        let otherwise =
+            every(1, 2, 4).find(|&(_, set, answer)| self.begun_otherwise[set][answer] < 1000);
+        let few = few.map(|(set, place, call)| {
+            format!(
+                "calls {call} begun in action {}, escape {}, in {}",
+                place / 2,
+                place % 2,
+                SETS[set]
+            )
+        });
+        const ANSWERS: [&str; 4] = ["complete", "refused with 7", "refused with 12", "above 12"];
+        let otherwise =
+            otherwise.map(|(_, set, answer)| format!("calls {} in {}", ANSWERS[answer], SETS[set]));
+        few.or(otherwise)
+    }
+
+    fn few_records(&self) -> Option<String> {
+        let reply = every(1, WAITS, LENT).find(|&(_, wait, got)| {
+            let within = got < most(wait as u8, 255);
+            within && self.records[wait][got] < 100
+        });
+        let own = every(1, ACTIONS, LENT).find(|&(_, action, held)| {
+            let within = held < most_own(action as u8);
+            within && self.records_own[action][held] < 100
+        });
+        let reply = reply.map(|(_, wait, got)| format!("records at {wait} with {got} bytes"));
+        let own = own.map(|(_, action, held)| format!("records in action {action}, {held} bytes"));
+        reply.or(own)
+    }
+
+    fn few_runs(&self) -> Option<String> {
+        const ENDS: [u8; 9] = [
+            NEED_MORE,
+            REPLY,
+            interface::ERROR,
+            RESTART,
+            REFUSED + 4,
+            REFUSED + 5,
+            REFUSED + 6,
+            REFUSED + 7,
+            REFUSED + 8,
+        ];
+        let end = ENDS
+            .into_iter()
+            .find(|&end| self.run_ends[end as usize] < 1000);
+        let end = end.map(|end| format!("runs that end with {end}"));
+        let start = every(WAITS, ACTIONS, 2)
+            .find(|&(wait, action, escape)| self.run_starts[wait][action][escape] < 100);
+        let start = start.map(|(wait, action, escape)| {
+            format!("runs that start at {wait}, action {action}, escape {escape}")
+        });
+        let note = (1..NOTE).find(|&kind| self.notes[kind] < 10_000);
+        let note = note.map(|kind| format!("notes of kind {kind}"));
+        let room = (0..8).find(|&room| self.rooms[room] < 10_000);
+        let room = room.map(|room| format!("runs with {room} bytes of room left"));
+        let long = match self.long_runs {
+            [..1000, _] => Some("runs with more than 256 notes".to_string()),
+            [_, ..10] => Some("runs with more than 65,536 notes".to_string()),
+            _ => None,
+        };
+        end.or(start).or(note).or(room).or(long)
+    }
+}
+
+// ---- One byte, one call ----
+
+/// Gives one byte to both and compares; the second program's answer, and
+/// whether all was equal.
+fn compare_byte(
+    pair: &mut Pair,
+    raw: u8,
+    group: &Group,
+    report: &mut Compared,
+    what: &dyn Fn() -> String,
+) -> (Told, bool) {
+    let (record, link) = (pair.record, pair.link);
+    let (reply, own) = pair.library.pointers();
+    let library = unsafe { tube_link_step(record, raw, reply, own) };
+    let Arrays { reply, own } = &mut pair.second;
+    let told = pair.link.step(raw, lent(reply), lent(own));
+    let after = library.link;
+    pair.record = after;
+
+    let (kind, values, length) = numbers(told);
+    let mut all = true;
+    let mut check = |property: Property, good: bool, found: &dyn Fn() -> String| {
+        all &= good;
+        report.check(property, good, || {
+            format!("{}: byte &{raw:02X} on {record:?}, {}", found(), what())
+        });
+    };
+    let answers = || format!("{library:?}, second program {told:?}");
+    check(group.kind, library.kind == kind, &answers);
+    check(group.values, library.values() == values, &answers);
+    check(group.length, library.length == length, &answers);
+    let (property, good) = match told {
+        _ if link.stopped() => (group.stopped, after == record),
+        Told::Refused(_) => {
+            let stopped = TubeLink {
+                stopped: 1,
+                ..record
+            };
+            (group.refused, after == stopped)
+        }
+        _ => (
+            group.record,
+            after.shows(&pair.link, record.out_length),
+        ),
+    };
+    check(property, good, &|| {
+        format!("{after:?}, second program {:?}", pair.link)
+    });
+    let (library, second) = (&pair.library, &pair.second);
+    check(group.reply, library.reply == second.reply, &|| {
+        difference(&library.reply, &second.reply, GUARD)
+    });
+    check(group.own, library.own == second.own, &|| {
+        difference(&library.own, &second.own, GUARD)
+    });
+    (told, all)
+}
+
+/// Begins a call on both and compares; every field of the record is settled.
+fn compare_begin(
+    pair: &mut Pair,
+    (call, out_length): (u8, u8),
+    group: &Group,
+    report: &mut Compared,
+    what: &dyn Fn() -> String,
+) -> (Begun, bool) {
+    let record = pair.record;
+    let library = unsafe { tube_begin(record, call, out_length) };
+    let begun = pair.link.begin(call, out_length);
+    pair.record = library.link;
+    let (numbers, expected) = match begun {
+        Begun::Waits => {
+            let out_length = match call {
+                OSWORD => out_length,
+                _ => record.out_length,
+            };
+            let waiting = TubeLink {
+                got: 0,
+                wait: 1 + call,
+                out_length,
+                ..record
+            };
+            ((0, 0), waiting)
+        }
+        Begun::Complete => ((1, 0), record),
+        Begun::Refused(number) => ((2, number), record),
+    };
+    let what = || {
+        format!(
+            "{library:?}, second program {begun:?}: call {call}, out length {out_length} on {record:?}, {}",
+            what()
+        )
+    };
+    let answered = (library.kind, library.answer) == numbers;
+    report.check(group.begun_kind, answered, what);
+    report.check(group.begun_record, library.link == expected, what);
+    (begun, answered && library.link == expected)
+}
+
+// ---- Runs ----
+
+/// Lends room of this length between guards, with random bytes.
+fn random_room(random: &mut Random, length: usize) -> Vec<u8> {
+    let mut room = vec![0; GUARD + length + GUARD];
+    random.fill(&mut room);
+    room
+}
+
+fn library_run(record: TubeLink, raw: &[u8], arrays: &mut Arrays, room: &mut [u8]) -> TubeRan {
+    let (reply, own) = arrays.pointers();
+    let room = &mut room[GUARD..];
+    let length = room.len() - GUARD;
+    unsafe {
+        tube_run(
+            record,
+            raw.as_ptr(),
+            raw.len(),
+            reply,
+            own,
+            room.as_mut_ptr(),
+            length,
+        )
+    }
+}
+
+/// Runs a piece on both and compares; how many bytes were used.
+fn compare_run(
+    random: &mut Random,
+    pair: &mut Pair,
+    raw: &[u8],
+    seen: &mut Seen,
+    report: &mut Compared,
+    what: &dyn Fn() -> String,
+) -> usize {
+    if !raw.is_empty() && random.one_in(4) {
+        compare_short(random, pair, raw, seen, report, what);
+    }
+    let (record, link) = (pair.record, pair.link);
+    seen.run_start(&link);
+    let left = random.below(8);
+    let before = random_room(random, NOTE * raw.len() + left);
+    let (mut room, mut expected) = (before.clone(), before.clone());
+    let library = library_run(record, raw, &mut pair.library, &mut room);
+    let Arrays { reply, own } = &mut pair.second;
+    let length = before.len() - GUARD;
+    let ran = pair
+        .link
+        .run(raw, lent(reply), lent(own), &mut expected[GUARD..length]);
+    let after = library.told.link;
+    pair.record = after;
+    let notes = GUARD..GUARD + NOTE * ran.noted;
+    seen.run_end(ran.told, &expected[notes.clone()], left);
+
+    let (kind, values, length) = numbers(ran.told);
+    let mut all = true;
+    let mut check = |property: Property, good: bool, found: &dyn Fn() -> String| {
+        all &= good;
+        report.check(property, good, || {
+            let start = &raw[..raw.len().min(40)];
+            format!(
+                "{}: {} bytes {start:02X?} on {record:?}, {}",
+                found(),
+                raw.len(),
+                what()
+            )
+        });
+    };
+    let answers = || format!("{library:?}, second program {ran:?}");
+    check(Property::RunKind, library.told.kind == kind, &answers);
+    check(
+        Property::RunValues,
+        library.told.values() == values,
+        &answers,
+    );
+    check(Property::RunLength, library.told.length == length, &answers);
+    check(Property::RunUsed, library.used == ran.used, &answers);
+    check(Property::RunNoted, library.noted == ran.noted, &answers);
+    if ran.noted != 0 {
+        let good = room[notes.clone()] == expected[notes.clone()];
+        check(Property::RunNotes, good, &|| {
+            difference(&room, &expected, GUARD)
+        });
+    }
+    let beyond = room[..GUARD] == before[..GUARD] && room[notes.end..] == before[notes.end..];
+    check(Property::RunBeyond, beyond, &|| {
+        difference(&room, &expected, GUARD)
+    });
+    let (property, good) = match ran.told {
+        _ if raw.is_empty() || link.stopped() => (Property::RunKept, after == record),
+        Told::Refused(_) if ran.used == 1 => {
+            let stopped = TubeLink {
+                stopped: 1,
+                ..record
+            };
+            (Property::RunRecord, after == stopped)
+        }
+        _ => (
+            Property::RunRecord,
+            after.shows(&pair.link, record.out_length),
+        ),
+    };
+    check(property, good, &|| {
+        format!("{after:?}, second program {:?}", pair.link)
+    });
+    let (library, second) = (&pair.library, &pair.second);
+    check(Property::RunReply, library.reply == second.reply, &|| {
+        difference(&library.reply, &second.reply, GUARD)
+    });
+    check(Property::RunOwn, library.own == second.own, &|| {
+        difference(&library.own, &second.own, GUARD)
+    });
+    if raw.is_empty() {
+        report.check(Property::RunEmpty, all, || {
+            format!("{record:?}, {}", what())
+        });
+    }
+    pair.mend(all);
+    ran.used
+}
+
+/// Room that is too short: nothing is used or touched.
+fn compare_short(
+    random: &mut Random,
+    pair: &Pair,
+    raw: &[u8],
+    seen: &mut Seen,
+    report: &mut Compared,
+    what: &dyn Fn() -> String,
+) {
+    let whole = NOTE * raw.len();
+    let length = match random.below(4) {
+        0 => random.below(whole),
+        1 => raw.len(),
+        _ => whole - 1,
+    };
+    let before = random_room(random, length);
+    let (mut room, mut arrays) = (before.clone(), pair.library);
+    let ran = library_run(pair.record, raw, &mut arrays, &mut room);
+    let told = ran.told;
+    let untouched = room == before && arrays == pair.library;
+    let good = (told.kind, told.values(), told.length) == (REFUSED, [8, 0, 0, 0], 0)
+        && told.link == pair.record
+        && (ran.used, ran.noted) == (0, 0);
+    report.check(Property::RunShort, good && untouched, || {
+        format!(
+            "{ran:?}: {length} bytes of room for {} raw bytes on {:?}, all untouched {untouched}, {}",
+            raw.len(),
+            pair.record,
+            what()
+        )
+    });
+    seen.run_end(Told::Refused(8), &[], 0);
+}
+
+// ---- Streams ----
+
+const STREAMS: u64 = 240_000;
+
+#[derive(Clone, Copy)]
+enum Event {
+    Raw(u8),
+    Begin(u8, u8),
+    Reset,
+}
+
+impl std::fmt::Display for Event {
+    fn fmt(&self, out: &mut std::fmt::Formatter) -> std::fmt::Result {
+        match self {
+            Event::Raw(byte) => write!(out, "{byte:02X}"),
+            Event::Begin(call, out_length) => write!(out, "(begin {call} {out_length})"),
+            Event::Reset => write!(out, "(reset)"),
+        }
+    }
+}
+
+fn put(events: &mut Vec<Event>, raw: &[u8]) {
+    events.extend(raw.iter().map(|&byte| Event::Raw(byte)));
+}
+
+/// Adds actions, now and then an error; some break a rule.
+fn put_actions(random: &mut Random, events: &mut Vec<Event>, mixture: usize, broken: bool) {
+    for _ in 0..1 + random.below(2) {
+        let raw = match random.below(12) {
+            0 if broken => {
+                let length = 256 + random.below(3);
+                random.error(mixture, length)
+            }
+            1 if broken => vec![0x9B, random.byte()],
+            2 if broken => {
+                let mut raw = random.action(mixture).raw;
+                let mark = random.mark();
+                let inside = 2 + random.below(raw.len() - 1);
+                raw.splice(inside.min(raw.len())..raw.len(), [0x9B, mark]);
+                raw
+            }
+            3 => vec![0x9B, 0, 0, 0],
+            4 => {
+                let length = random.length();
+                random.error(mixture, length)
+            }
+            5 => {
+                let length = random.below(4);
+                random.error(mixture, length)
+            }
+            _ => random.action(mixture).raw,
+        };
+        put(events, &raw);
+    }
+}
+
+/// One to four calls with their replies, actions between the bytes, and
+/// characters and actions before; a call may begin somewhat early.
+fn talk(random: &mut Random, broken: bool) -> Vec<Event> {
+    let mut events = Vec::new();
+    for _ in 0..1 + random.below(4) {
+        let mixture = random.below(4);
+        if random.one_in(2) {
+            let length = random.below(6);
+            put(&mut events, &escaped(&random.bytes(mixture, length)));
+        }
+        if random.one_in(2) {
+            put_actions(random, &mut events, mixture, broken);
+        }
+        let (call, mut out_length) = random.call();
+        if random.one_in(12) {
+            out_length = 0;
+        }
+        let early = match random.below(3) {
+            0 => random.below(8),
+            1 => random.below(3),
+            _ => 0,
+        };
+        let at = events.len().saturating_sub(early);
+        events.insert(at, Event::Begin(call, out_length));
+        let mut reply = random.reply((call, out_length), mixture);
+        if broken && call == OSWORD_0 && random.one_in(2) {
+            let length = 256 + random.below(3);
+            reply = random.line(mixture, length);
+        }
+        let often = 2 + reply.len() / 2 + random.below(8);
+        for &byte in &reply {
+            if random.one_in(often) {
+                put_actions(random, &mut events, mixture, broken);
+            }
+            put(&mut events, &escaped(&[byte]));
+        }
+    }
+    events
+}
+
+/// Cuts, flips, inserts, drops, repeats, resets and calls.
+fn damage(random: &mut Random, events: &mut Vec<Event>) {
+    for _ in 0..1 + random.below(4) {
+        let at = random.below(events.len() + 1);
+        let within = at < events.len();
+        match random.below(12) {
+            0 => events.truncate(at),
+            1 | 2 if within => {
+                if let Event::Raw(byte) = &mut events[at] {
+                    *byte ^= 1 << random.below(8);
+                }
+            }
+            3 if within => events[at] = Event::Raw(random.edge()),
+            4 if within => {
+                events.remove(at);
+            }
+            5 if within => {
+                let from = at.saturating_sub(random.below(8));
+                events.drain(from..=at);
+            }
+            6 if within => events.insert(at, events[at]),
+            7 => events.insert(at, Event::Reset),
+            8 | 9 => {
+                let (call, out_length) = random.call();
+                events.insert(at, Event::Begin(call, out_length));
+            }
+            10 => {
+                let mark = random.mark();
+                events.splice(at..at, [Event::Raw(0x9B), Event::Raw(mark)]);
+            }
+            _ => events.insert(at, Event::Raw(random.mixed(1))),
+        }
+    }
+    if events.is_empty() {
+        events.push(Event::Raw(random.byte()));
+    }
+}
+
+/// Any bytes, or those at which rules change, with calls and resets.
+fn noise(random: &mut Random) -> Vec<Event> {
+    let mixture = random.below(3);
+    let most = if random.one_in(8) { 600 } else { 60 };
+    let length = 1 + random.below(most);
+    (0..length)
+        .map(|_| match random.below(64) {
+            0 => Event::Reset,
+            1..5 => {
+                let (call, out_length) = random.call();
+                Event::Begin(call, out_length)
+            }
+            5 => Event::Begin(random.byte(), random.byte()),
+            6..12 => Event::Raw(random.mark()),
+            12..16 => Event::Raw(0x9B),
+            _ => Event::Raw(random.mixed(mixture)),
+        })
+        .collect()
+}
+
+/// The events up to one, in words.
+fn shown(events: &[Event], at: usize, name: &str) -> String {
+    let shown: Vec<String> = events[at.saturating_sub(24)..=at.min(events.len() - 1)]
+        .iter()
+        .map(|event| event.to_string())
+        .collect();
+    format!("{name}, event {at}, up to it {}", shown.join(" "))
+}
+
+/// Plays a stream on both, byte by byte. A stopped link gets a few more bytes,
+/// then a reset.
+fn compare_stream(
+    random: &mut Random,
+    events: &[Event],
+    name: &str,
+    seen: &mut Seen,
+    report: &mut Compared,
+) {
+    let mut pair = Pair::fresh(random);
+    // The open error came while idle; the last event was a call inside a pair.
+    let (mut opened_idle, mut divided) = (false, false);
+    for (at, &event) in events.iter().enumerate() {
+        let what = || shown(events, at, name);
+        if pair.link.stopped() && random.one_in(6) {
+            seen.reset(&pair.link);
+            pair.reset();
+        }
+        let before = pair.link;
+        match event {
+            Event::Reset => {
+                seen.reset(&before);
+                pair.reset();
+                divided = false;
+            }
+            Event::Begin(call, out_length) => {
+                let (begun, equal) =
+                    compare_begin(&mut pair, (call, out_length), &STREAM, report, &what);
+                seen.begun(0, &before, call, begun);
+                divided |= begun == Begun::Waits && before.escape && before.action == NO_ACTION;
+                pair.mend(equal);
+            }
+            Event::Raw(raw) => {
+                let (told, equal) = compare_byte(&mut pair, raw, &STREAM, report, &what);
+                seen.stream(&before, raw, told);
+                if before.action == NO_ACTION && pair.link.action == ERROR {
+                    opened_idle = before.wait == 0;
+                }
+                let ended = matches!(told, Told::Error { .. } | Told::Restart);
+                seen.late[0] += (ended && opened_idle && before.wait != 0) as u64;
+                seen.late[1] += (divided && raw == 0x9B) as u64;
+                divided = false;
+                pair.mend(equal);
+            }
+        }
+    }
+}
+
+/// Plays the same stream in pieces cut at random, between calls and resets.
+fn compare_pieces(
+    random: &mut Random,
+    events: &[Event],
+    name: &str,
+    seen: &mut Seen,
+    report: &mut Compared,
+) {
+    let mut pair = Pair::fresh(random);
+    let mut piece = Vec::new();
+    let cut = [1, 2, 6, 30, usize::MAX][random.below(5)];
+    for (at, &event) in events.iter().enumerate() {
+        let what = || shown(events, at, name);
+        let Event::Raw(raw) = event else {
+            compare_piece(random, &mut pair, &mut piece, seen, report, &what);
+            match event {
+                Event::Begin(call, out_length) => {
+                    let kind = (call, out_length);
+                    let (_, equal) = compare_begin(&mut pair, kind, &STREAM, report, &what);
+                    pair.mend(equal);
+                }
+                _ => pair.reset(),
+            }
+            continue;
+        };
+        piece.push(raw);
+        if random.one_in(cut) {
+            compare_piece(random, &mut pair, &mut piece, seen, report, &what);
+        }
+    }
+    let what = || shown(events, events.len() - 1, name);
+    compare_piece(random, &mut pair, &mut piece, seen, report, &what);
+}
+
+/// Runs over a piece until it is used up. A stopped link gets a few more bytes,
+/// then a reset.
+fn compare_piece(
+    random: &mut Random,
+    pair: &mut Pair,
+    piece: &mut Vec<u8>,
+    seen: &mut Seen,
+    report: &mut Compared,
+    what: &dyn Fn() -> String,
+) {
+    let mut rest = &piece[..];
+    if !rest.is_empty() && random.one_in(8) {
+        compare_run(random, pair, &[], seen, report, what);
+    }
+    while !rest.is_empty() {
+        let used = compare_run(random, pair, rest, seen, report, what);
+        rest = &rest[used..];
+        if pair.link.stopped() && random.one_in(3) {
+            pair.reset();
+        }
+    }
+    piece.clear();
+}
+
+fn compare_streams(random: &mut Random, seen: &mut Seen, report: &mut Compared) {
+    for number in 0..STREAMS {
+        let (kind, mut events) = match number % 8 {
+            0 | 1 => ("good", talk(random, false)),
+            2 | 3 => ("broken", talk(random, true)),
+            4..=6 => ("damaged", talk(random, false)),
+            _ => ("noise", noise(random)),
+        };
+        if kind == "damaged" {
+            damage(random, &mut events);
+        }
+        let name = format!("{kind} stream {number}");
+        compare_stream(random, &events, &name, seen, report);
+        compare_pieces(random, &events, &name, seen, report);
+    }
+}
+
+/// Replies, lines and texts of every length with &9B at one place or at all;
+/// every mark in each state; every character.
+fn compare_each(random: &mut Random, seen: &mut Seen, report: &mut Compared) {
+    let mut compare = |random: &mut Random, events: &[Event], name: &str| {
+        compare_stream(random, events, name, seen, report);
+        compare_pieces(random, events, name, seen, report);
+    };
+    for call in 0..CALLS {
+        for length in 0..=257 {
+            let out_length = length.clamp(1, 255) as u8;
+            for mixture in [0, 2, 3] {
+                let reply = match call {
+                    OSWORD_0 => random.line(mixture, length),
+                    _ => random.reply((call, out_length), mixture),
+                };
+                let mut events = vec![Event::Begin(call, out_length)];
+                put(&mut events, &escaped(&reply));
+                put(&mut events, b"ABC");
+                compare(random, &events, "each reply");
+            }
+        }
+    }
+    for length in 0..=257 {
+        for (mixture, wait) in [(0, 0), (2, 0), (3, 0), (0, 1), (2, 1), (3, 1)] {
+            let mut events = Vec::new();
+            if wait == 1 {
+                let (call, out_length) = random.call();
+                events.push(Event::Begin(call, out_length));
+            }
+            let error = random.error(mixture, length);
+            put(&mut events, &error);
+            put(&mut events, b"ABC");
+            compare(random, &events, "each text");
+        }
+    }
+    for byte in 0..=255 {
+        put_each_byte(random, byte, &mut compare);
+    }
+}
+
+/// A byte as a character, and as a mark in each state.
+fn put_each_byte(
+    random: &mut Random,
+    byte: u8,
+    compare: &mut dyn FnMut(&mut Random, &[Event], &str),
+) {
+    let mut events = Vec::new();
+    put(&mut events, &[byte, byte, 0x41]);
+    compare(random, &events, "each character");
+    let states = [
+        (NO_ACTION, 0x80),
+        (ERROR, 0x00),
+        (EVENT, 0x90),
+        (ADDRESS, 0xC0),
+    ];
+    for (action, mark) in states {
+        for wait in 0..=CALLS {
+            let mut events = Vec::new();
+            let out_length = random.at_least(1);
+            if wait != 0 {
+                events.push(Event::Begin(wait - 1, out_length));
+                let reply = random.reply((wait - 1, out_length), 1);
+                let taken = random.below(reply.len());
+                put(&mut events, &escaped(&reply[..taken]));
+            }
+            put(&mut events, &[0x9B, mark]);
+            let held = random.below(most_own(action).min(40));
+            put(&mut events, &[0x41; 40][..held]);
+            put(&mut events, &[0x9B, byte, byte, 0x41, 0x00]);
+            compare(random, &events, "each mark");
+        }
+    }
+}
+
+// ---- Replies with actions between their bytes ----
+
+const TALKS: u64 = 60_000;
+
+/// A library link with everything lent, run piece by piece.
+struct Bench {
+    record: TubeLink,
+    arrays: Arrays,
+    notes: Vec<u8>,
+}
+
+impl Bench {
+    fn new(arrays: Arrays) -> Bench {
+        Bench {
+            record: unsafe { tube_link() },
+            arrays,
+            notes: Vec::new(),
+        }
+    }
+
+    fn begin(&mut self, (call, out_length): (u8, u8)) {
+        self.record = unsafe { tube_begin(self.record, call, out_length) }.link;
+    }
+
+    /// Runs over raw bytes; the kind, and whether all of them were used.
+    fn run(&mut self, raw: &[u8]) -> (TubeTold, bool) {
+        let mut room = vec![0; GUARD + NOTE * raw.len() + GUARD];
+        let ran = library_run(self.record, raw, &mut self.arrays, &mut room);
+        self.record = ran.told.link;
+        let noted = ran.noted.min(raw.len());
+        self.notes.extend(&room[GUARD..GUARD + NOTE * noted]);
+        (ran.told, ran.used == raw.len())
+    }
+
+    /// The finished reply, where the last run gave it with its last byte.
+    fn reply(&mut self, raw: &[u8]) -> Option<Vec<u8>> {
+        let (told, all) = self.run(raw);
+        let idle = self.record.shows(&Link::new(), self.record.out_length);
+        let good = all && told.kind == REPLY && idle;
+        good.then(|| lent(&mut self.arrays.reply)[..told.length.min(LENT)].to_vec())
+    }
+}
+
+/// The library alone: actions between the bytes of a reply do not change it.
+fn compare_actions(random: &mut Random, report: &mut Compared) {
+    for number in 0..TALKS {
+        let laden = Laden::new(random);
+        let arrays = Arrays::random(random);
+        let what = || {
+            let start = &laden.raw[..laden.raw.len().min(60)];
+            format!(
+                "reply {number}, call {:?}, plain {:02X?}, raw {start:02X?}",
+                laden.kind, laden.plain
+            )
+        };
+        compare_laden(random, &laden, arrays, report, &what);
+        compare_ended(random, &laden, arrays, report, &what);
+    }
+}
+
+fn compare_laden(
+    random: &mut Random,
+    laden: &Laden,
+    arrays: Arrays,
+    report: &mut Compared,
+    what: &dyn Fn() -> String,
+) {
+    let mut bare = Bench::new(arrays);
+    bare.begin(laden.kind);
+    let reply = bare.reply(&escaped(&laden.plain));
+    let good = reply.as_ref() == Some(&laden.plain) && bare.notes.is_empty();
+
+    // The call begins somewhere in the first action where one leads.
+    let early = random.below(laden.leading + 1);
+    let mut full = Bench::new(arrays);
+    let (told, all) = full.run(&laden.raw[..early]);
+    let waited = all && (told.kind == NEED_MORE);
+    full.begin(laden.kind);
+    let same = full.reply(&laden.raw[early..]) == reply && full.arrays.reply == bare.arrays.reply;
+    report.check(Property::ActionsReply, good && waited && same, || {
+        format!("call begun after {early} bytes: {}", what())
+    });
+    report.check(Property::ActionsNotes, full.notes == laden.notes, || {
+        format!("{:02X?}: {}", full.notes, what())
+    });
+
+    let mut ends = Bench::new(arrays);
+    ends.begin(laden.kind);
+    let (last, before) = laden.raw.split_last().unwrap();
+    let (told, all) = ends.run(before);
+    let end = all && told.kind == NEED_MORE && ends.reply(&[*last]) == reply;
+    report.check(Property::ActionsEnd, end, || {
+        format!("{told:?}: {}", what())
+    });
+
+    let mut cut_up = Bench::new(arrays);
+    cut_up.begin(laden.kind);
+    let cut = random.below(laden.raw.len());
+    let (told, all) = cut_up.run(&laden.raw[..cut]);
+    let same = all
+        && told.kind == NEED_MORE
+        && cut_up.reply(&laden.raw[cut..]) == reply
+        && cut_up.notes == laden.notes
+        && cut_up.arrays == full.arrays;
+    report.check(Property::ActionsPieces, same, || {
+        format!("cut after {cut} bytes: {}", what())
+    });
+}
+
+/// An error or a restart before some byte of a reply; what remains of it is
+/// characters then.
+fn compare_ended(
+    random: &mut Random,
+    laden: &Laden,
+    arrays: Arrays,
+    report: &mut Compared,
+    what: &dyn Fn() -> String,
+) {
+    let at = random.below(laden.plain.len());
+    let (taken, rest) = laden.plain.split_at(at);
+    let restart = random.one_in(4);
+    let (number, length) = match restart {
+        true => (0, 0),
+        false => (1 + random.below(255) as u8, random.length()),
+    };
+    let mixture = random.below(4);
+    let text = random.without(0x00, mixture, length);
+    let own = [&[number], &text[..], &[0]].concat();
+    let error = [&[0x9B, 0x00], &escaped(&own)[..]].concat();
+    let raw = [escaped(taken), error].concat();
+
+    let mut bench = Bench::new(arrays);
+    bench.begin(laden.kind);
+    let (told, all) = bench.run(&raw);
+    let expected = match restart {
+        true => (RESTART, [0; 4], 0),
+        false => (interface::ERROR, [number, 0, 0, 0], length),
+    };
+    let mut after = arrays;
+    lent(&mut after.own)[..own.len()].copy_from_slice(&own);
+    lent(&mut after.reply)[..at].copy_from_slice(taken);
+    let ended = all
+        && (told.kind, told.values(), told.length) == expected
+        && bench.notes.is_empty()
+        && bench.arrays == after
+        && bench.record.shows(&Link::new(), bench.record.out_length);
+
+    let characters: Vec<u8> = rest.iter().flat_map(|&byte| [1, byte, 0, 0, 0]).collect();
+    let (told, all) = bench.run(&escaped(rest));
+    let passed = all && told.kind == NEED_MORE && bench.notes == characters;
+    let property = match restart {
+        true => Property::ActionsRestart,
+        false => Property::ActionsError,
+    };
+    report.check(property, ended && passed, || {
+        format!(
+            "{told:?}, ended {ended}, then characters {passed}: error {number} with {length} bytes before byte {at}, {}",
+            what()
+        )
+    });
+}
+
+// ---- Single steps from any record ----
+
+const STEPS: u64 = 3_000_000;
+
+impl Random {
+    /// A count around a limit, most often below it.
+    fn count(&mut self, limit: usize) -> usize {
+        match self.below(32) {
+            0 => limit,
+            1 => limit + 1 + self.below(20),
+            2 => self.next() as usize,
+            3 => usize::MAX - self.below(300),
+            // Within the limit in its lowest bits only.
+            4 => self.below(limit + 1) + (256 << self.below(40)),
+            5..9 => limit.saturating_sub(1 + self.below(3)),
+            9..16 => self.below(3).min(limit.saturating_sub(1)),
+            _ => self.below(limit.max(1)),
+        }
+    }
+
+    /// A record within its limits and beyond.
+    fn record(&mut self) -> TubeLink {
+        let wait = match self.below(24) {
+            0 => self.at_least(WAITS as u8),
+            1 => WAITS as u8,
+            2..6 => 0,
+            6..10 => WAIT_BLOCK + self.below(2) as u8,
+            _ => 1 + self.below(CALLS as usize) as u8,
+        };
+        let action = match self.below(24) {
+            0 => self.at_least(ACTIONS as u8),
+            1 => ACTIONS as u8,
+            2..12 => NO_ACTION,
+            12..16 => ERROR,
+            _ => ERROR + self.below(3) as u8,
+        };
+        let out_length = match self.below(6) {
+            0 => 0,
+            1 => 255,
+            2 => 1 + self.below(4) as u8,
+            _ => self.byte(),
+        };
+        TubeLink {
+            got: self.count(most(wait, out_length)),
+            held: self.count(most_own(action)),
+            wait,
+            out_length,
+            escape: match self.below(6) {
+                0..3 => 0,
+                3 => 1,
+                _ => self.byte(),
+            },
+            action,
+            stopped: match self.below(24) {
+                0 => self.byte(),
+                1 => 1,
+                _ => 0,
+            },
+        }
+    }
+
+    /// Lent bytes, near the rules that look at them in many cases.
+    fn arrays(&mut self) -> Arrays {
+        let mut arrays = Arrays::random(self);
+        if self.one_in(3) {
+            lent(&mut arrays.own)[0] = 0;
+        }
+        if self.one_in(4) {
+            lent(&mut arrays.reply)[0] = self.edge();
+        }
+        arrays
+    }
+
+    fn raw(&mut self) -> u8 {
+        match self.below(4) {
+            0 => self.byte(),
+            1 => self.mark(),
+            _ => self.edge(),
+        }
+    }
+}
+
+fn compare_step(
+    random: &mut Random,
+    record: TubeLink,
+    raw: u8,
+    seen: &mut Seen,
+    report: &mut Compared,
+) {
+    let mut pair = Pair::new(record, random.arrays());
+    let before = pair.library;
+    let what = || {
+        format!(
+            "first bytes lent {:02X?} and {:02X?}",
+            &before.reply[GUARD..GUARD + 4],
+            &before.own[GUARD..GUARD + 4]
+        )
+    };
+    let (told, _) = compare_byte(&mut pair, raw, &STEP, report, &what);
+    seen.step(&record, told);
+}
+
+fn compare_begun(
+    random: &mut Random,
+    record: TubeLink,
+    kind: (u8, u8),
+    seen: &mut Seen,
+    report: &mut Compared,
+) {
+    let mut pair = Pair::new(record, Arrays::random(random));
+    let before = pair.link;
+    let what = || "any record".to_string();
+    let (begun, _) = compare_begin(&mut pair, kind, &STEP, report, &what);
+    seen.begun(1, &before, kind.0, begun);
+}
+
+/// Every call, action and count around the limits, with the bytes at which rules
+/// change.
+fn compare_counts(random: &mut Random, seen: &mut Seen, report: &mut Compared) {
+    const RAWS: [u8; 7] = [0x9B, 0x0D, 0x00, 0x7F, 0x80, 0x41, 0xA0];
+    for (tag, count, at) in every(WAITS + 2, LENT + 4, 2 * RAWS.len()) {
+        let escape = if at % 2 == 0 { 0 } else { random.at_least(1) };
+        let idle = TubeLink {
+            escape,
+            ..unsafe { tube_link() }
+        };
+        let record = TubeLink {
+            got: count,
+            wait: tag as u8,
+            out_length: random.at_least(250),
+            ..idle
+        };
+        compare_step(random, record, RAWS[at / 2], seen, report);
+        let waiting = random.below(WAITS) as u8;
+        let record = TubeLink {
+            held: count,
+            wait: waiting,
+            out_length: 1,
+            action: tag as u8,
+            ..idle
+        };
+        if tag <= ACTIONS {
+            compare_step(random, record, RAWS[at / 2], seen, report);
+        }
+    }
+}
+
+/// Errors of a few bytes in every call, so that many are restarts.
+fn compare_restarts(random: &mut Random, seen: &mut Seen, report: &mut Compared) {
+    for (wait, held, _) in every(WAITS, 4, 1000) {
+        let out_length = random.at_least(1);
+        let record = TubeLink {
+            got: random.below(most(wait as u8, out_length)),
+            held,
+            wait: wait as u8,
+            out_length,
+            escape: 0,
+            action: ERROR,
+            stopped: 0,
+        };
+        let raw = if random.one_in(2) { 0 } else { random.byte() };
+        compare_step(random, record, raw, seen, report);
+    }
+}
+
+/// Every byte in every state; every number of an escape and of a stop.
+fn compare_states(random: &mut Random, seen: &mut Seen, report: &mut Compared) {
+    for (wait, action, at) in every(WAITS + 1, ACTIONS + 1, 512) {
+        let out_length = random.at_least(1);
+        let record = TubeLink {
+            got: random.below(most(wait as u8, out_length)),
+            held: random.below(most_own(action as u8)),
+            wait: wait as u8,
+            out_length,
+            escape: if at < 256 { 0 } else { random.at_least(1) },
+            action: action as u8,
+            stopped: 0,
+        };
+        compare_step(random, record, at as u8, seen, report);
+    }
+    for (_, number, raw) in every(1, 256, 256) {
+        let mut record = random.record();
+        record.escape = number as u8;
+        compare_step(random, record, raw as u8, seen, report);
+        record.stopped = number as u8;
+        compare_step(random, record, raw as u8, seen, report);
+    }
+}
+
+/// Every call on every kind of record.
+fn compare_calls(random: &mut Random, seen: &mut Seen, report: &mut Compared) {
+    for (wait, action, call) in every(WAITS + 1, ACTIONS + 1, 256) {
+        for at in 0..6 {
+            let mut record = random.record();
+            (record.wait, record.action) = (wait as u8, action as u8);
+            if at < 5 {
+                record.stopped = 0;
+                record.got = random.below(most(record.wait, record.out_length).max(1));
+                record.held = random.below(most_own(record.action));
+            }
+            let out_length = [0, 1, 255, random.byte()][random.below(4)];
+            let call = match at {
+                0 => call as u8,
+                _ => call as u8 % (CALLS + 1),
+            };
+            compare_begun(random, record, (call, out_length), seen, report);
+        }
+    }
+    for _ in 0..STEPS / 2 {
+        let record = random.record();
+        let (call, out_length) = match random.below(8) {
+            0 => (random.byte(), random.byte()),
+            1 => (OSWORD, 0),
+            2 => (OSRDCH + random.below(2) as u8, 0),
+            _ => random.call(),
+        };
+        compare_begun(random, record, (call, out_length), seen, report);
+    }
+}
+
+fn compare_steps(random: &mut Random, seen: &mut Seen, report: &mut Compared) {
+    let fresh = unsafe { tube_link() };
+    let expected = TubeLink::from_second(&Link::new());
+    report.check(Property::Fresh, fresh == expected, || format!("{fresh:?}"));
+    compare_counts(random, seen, report);
+    compare_restarts(random, seen, report);
+    compare_states(random, seen, report);
+    for _ in 0..STEPS {
+        let record = random.record();
+        let raw = random.raw();
+        compare_step(random, record, raw, seen, report);
+    }
+    compare_calls(random, seen, report);
+}
+
+/// Runs over a few bytes from any record.
+fn compare_runs(random: &mut Random, seen: &mut Seen, report: &mut Compared) {
+    for number in 0..STREAMS {
+        let record = random.record();
+        let mut pair = Pair::new(record, random.arrays());
+        let length = match random.below(8) {
+            0 => 0,
+            1 => random.below(400),
+            _ => random.below(12),
+        };
+        let mixture = random.below(3);
+        let mut raw = random.bytes(mixture, length);
+        if length > 0 && random.one_in(2) {
+            raw[0] = random.raw();
+        }
+        let what = || format!("run {number} from any record");
+        compare_run(random, &mut pair, &raw, seen, report, &what);
+    }
+}
+
+/// Runs with many notes: characters, and an action now and then.
+fn compare_long(random: &mut Random, seen: &mut Seen, report: &mut Compared) {
+    for number in 0..2000 {
+        let length = match number % 100 {
+            0 => 65_530 + random.below(5000),
+            _ => 250 + random.below(1500),
+        };
+        let mut raw = escaped(&random.bytes(0, length));
+        for _ in 0..random.below(4) {
+            let action = random.action(1).raw;
+            let at = random.below(length / 2);
+            // Not inside a pair.
+            if raw[at..at + 2].iter().all(|&byte| byte != 0x9B) {
+                raw.splice(at + 1..at + 1, action);
+            }
+        }
+        let mut pair = Pair::fresh(random);
+        let what = || format!("long run {number}");
+        compare_run(random, &mut pair, &raw, seen, report, &what);
+    }
+}
+
+fn main() -> ExitCode {
+    let mut random = Random(0x0123_4567_89AB_CDEF);
+    let mut report = Report::new(&PROPERTIES);
+    let mut seen = Seen::new();
+    compare_streams(&mut random, &mut seen, &mut report);
+    compare_each(&mut random, &mut seen, &mut report);
+    compare_actions(&mut random, &mut report);
+    compare_steps(&mut random, &mut seen, &mut report);
+    compare_runs(&mut random, &mut seen, &mut report);
+    compare_long(&mut random, &mut seen, &mut report);
+    seen.report(&mut report);
+    report.print()
+}

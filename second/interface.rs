@@ -1,0 +1,114 @@
+//! The library's C interface of links and replies, as Rust declares it.
+
+/// A link: the bytes of the reply and of the open action so far; 0 or one more
+/// than the call that waits; the open action (0 none, 1 error, 2 event, 3
+/// address). An escape was seen, or it is stopped, where that number is not 0.
+#[repr(C)]
+#[derive(Clone, Copy, PartialEq, Debug)]
+pub struct TubeLink {
+    pub got: usize,
+    pub held: usize,
+    pub wait: u8,
+    pub out_length: u8,
+    pub escape: u8,
+    pub action: u8,
+    pub stopped: u8,
+}
+
+/// What a raw byte gives, by its kind.
+#[repr(C)]
+#[derive(Clone, Copy, Debug)]
+pub struct TubeTold {
+    pub link: TubeLink,
+    pub length: usize,
+    pub kind: u8,
+    pub first: u8,
+    pub second: u8,
+    pub third: u8,
+    pub fourth: u8,
+}
+
+// The kinds that the loop stops with; 1 to 4 are those of its notes.
+pub const NEED_MORE: u8 = 0;
+pub const REPLY: u8 = 5;
+pub const ERROR: u8 = 6;
+pub const RESTART: u8 = 7;
+pub const REFUSED: u8 = 8;
+
+/// Kind 0 waits, 1 complete, 2 refused.
+#[repr(C)]
+#[derive(Clone, Copy, Debug)]
+pub struct TubeBegun {
+    pub link: TubeLink,
+    pub kind: u8,
+    pub answer: u8,
+}
+
+#[repr(C)]
+#[derive(Clone, Copy, Debug)]
+pub struct TubeRan {
+    pub told: TubeTold,
+    pub used: usize,
+    pub noted: usize,
+}
+
+#[repr(C)]
+#[derive(Clone, Copy, Debug)]
+pub struct TubeWritten {
+    pub length: usize,
+    pub answer: u8,
+}
+
+/// The fields of a finished reply.
+#[repr(C)]
+#[derive(Clone, Copy, Debug)]
+pub struct TubeGiven {
+    pub block_start: usize,
+    pub block_length: usize,
+    pub text_start: usize,
+    pub text_length: usize,
+    pub reply: u8,
+    pub carry: u8,
+    pub x: u8,
+    pub y: u8,
+    pub a: u8,
+}
+
+#[repr(C)]
+#[derive(Clone, Copy, Debug)]
+pub struct TubeKind {
+    pub call: u8,
+    pub out_length: u8,
+}
+
+unsafe extern "C" {
+    pub fn tube_link() -> TubeLink;
+    pub fn tube_begin(link: TubeLink, call: u8, out_length: u8) -> TubeBegun;
+    pub fn tube_link_step(link: TubeLink, raw: u8, reply: *mut u8, own: *mut u8) -> TubeTold;
+    pub fn tube_run(
+        link: TubeLink,
+        raw: *const u8,
+        raw_length: usize,
+        reply: *mut u8,
+        own: *mut u8,
+        room: *mut u8,
+        room_length: usize,
+    ) -> TubeRan;
+    pub fn tube_write_reply(
+        call: u8,
+        out_length: u8,
+        reply: u8,
+        carry: u8,
+        x: u8,
+        y: u8,
+        a: u8,
+        block: *const u8,
+        block_length: usize,
+        text: *const u8,
+        text_length: usize,
+        out: *mut u8,
+        room: usize,
+    ) -> TubeWritten;
+    pub fn tube_read_reply(call: u8, out_length: u8, bytes: *const u8, length: usize) -> TubeGiven;
+    pub fn tube_kind_of(code: u8, body: *const u8, length: usize) -> TubeKind;
+}

@@ -1,0 +1,1353 @@
+//! A second program for the replies and actions of the serial protocol: the link
+//! that reads them byte by byte, the loop over it, the reply writer, and the
+//! fields of a finished reply. It is written from the rules and shares nothing
+//! with the proved library.
+
+// Its escape layer, strings and refusals are used here, its requests in tests.
+#[allow(dead_code)]
+#[path = "serial.rs"]
+pub mod serial;
+
+use serial::{
+    BROKEN_RULE, LONG_STRING, LONGEST_STRING, MARK_INSIDE, NOT_CARRIED, READER_STOPPED,
+    SHORT_BUFFER, STRING_END, Unit, ends_string, put_serial, unit,
+};
+use std::ops::Range;
+
+// Calls; the numbers are those of `serial::Request`.
+pub const OSRDCH: u8 = 0;
+pub const OSCLI: u8 = 1;
+pub const OSBYTE_LOW: u8 = 2;
+pub const OSBYTE_HIGH: u8 = 3;
+pub const OSWORD: u8 = 4;
+pub const OSWORD_0: u8 = 5;
+pub const OSARGS: u8 = 6;
+pub const OSBGET: u8 = 7;
+pub const OSBPUT: u8 = 8;
+pub const OSFIND_CLOSE: u8 = 9;
+pub const OSFIND_OPEN: u8 = 10;
+pub const OSFILE: u8 = 11;
+pub const OSGBPB: u8 = 12;
+
+/// How many calls there are.
+pub const CALLS: u8 = 13;
+
+/// A call begun while another waits.
+const CALL_WAITS: u8 = 12;
+
+/// The bytes lent for a reply, and those lent for an action's own bytes: the
+/// longest are a line with its first byte and its end, and an error's number
+/// with its text and end.
+pub const LENT: usize = 257;
+
+const ARGS_BLOCK: usize = 4;
+const FILE_BLOCK: usize = 16;
+const GBPB_BLOCK: usize = 13;
+
+/// The most bytes that a reply to each call has; OSWORD's is its out length.
+const MOST: [usize; CALLS as usize] = [2, 1, 1, 3, 0, LENT, 5, 2, 1, 1, 1, 17, 15];
+
+// ---- The link ----
+
+/// No call waits.
+const IDLE: u8 = 0;
+/// What waits where an OSWORD 0 does.
+const WAIT_LINE: u8 = 1 + OSWORD_0;
+/// What waits where an OSWORD does.
+pub const WAIT_BLOCK: u8 = 1 + OSWORD;
+
+// Open actions.
+pub const NO_ACTION: u8 = 0;
+pub const ERROR: u8 = 1;
+pub const EVENT: u8 = 2;
+pub const ADDRESS: u8 = 3;
+
+/// The most own bytes of each action.
+const MOST_OWN: [usize; 4] = [0, LENT, 3, 4];
+
+const TEXT_END: u8 = 0x00;
+
+#[derive(Clone, Copy, PartialEq, Debug)]
+pub struct Link {
+    /// Idle, or one more than the number of the call that waits.
+    pub wait: u8,
+    /// The out length of the OSWORD that waits.
+    pub out_length: u8,
+    /// How many bytes of the reply have been taken.
+    pub got: usize,
+    /// The open action, and how many of its own bytes have been taken.
+    pub action: u8,
+    pub held: usize,
+    /// The last raw byte was the first of an escape pair.
+    pub escape: bool,
+    pub stopped: bool,
+}
+
+/// The answer to a call begun.
+#[derive(Clone, Copy, PartialEq, Debug)]
+pub enum Begun {
+    Waits,
+    Complete,
+    Refused(u8),
+}
+
+/// The answer to one raw byte.
+#[derive(Clone, Copy, PartialEq, Debug)]
+pub enum Told {
+    More,
+    Character(u8),
+    /// The new Escape state.
+    Escape(bool),
+    /// Y, X, A.
+    Event([u8; 3]),
+    /// High byte first.
+    Address([u8; 4]),
+    /// The reply is as many of the first bytes lent for it.
+    Reply(usize),
+    /// The text has this length and follows the number in the own bytes.
+    Error {
+        number: u8,
+        length: usize,
+    },
+    Restart,
+    Refused(u8),
+}
+
+impl Link {
+    pub fn new() -> Link {
+        Link {
+            wait: IDLE,
+            out_length: 0,
+            got: 0,
+            action: NO_ACTION,
+            held: 0,
+            escape: false,
+            stopped: false,
+        }
+    }
+
+    /// Stopped, or a record beyond its limits.
+    #[inline]
+    pub fn stopped(&self) -> bool {
+        self.stopped || self.reply_beyond() || self.action_beyond()
+    }
+
+    #[inline]
+    fn reply_beyond(&self) -> bool {
+        match self.wait {
+            IDLE => self.got != 0,
+            1..=CALLS => self.got >= self.most(),
+            _ => true,
+        }
+    }
+
+    #[inline]
+    fn action_beyond(&self) -> bool {
+        match self.action {
+            NO_ACTION => self.held != 0,
+            ERROR..=ADDRESS => self.held >= MOST_OWN[self.action as usize],
+            _ => true,
+        }
+    }
+
+    /// The most bytes of the reply that is waited for.
+    #[inline]
+    fn most(&self) -> usize {
+        match self.wait {
+            WAIT_BLOCK => self.out_length as usize,
+            wait => MOST[wait as usize - 1],
+        }
+    }
+
+    /// Begins a call. The open action and the escape stay.
+    pub fn begin(&mut self, call: u8, out_length: u8) -> Begun {
+        if self.stopped() || call >= CALLS {
+            return Begun::Refused(READER_STOPPED);
+        }
+        if self.wait != IDLE {
+            return Begun::Refused(CALL_WAITS);
+        }
+        let out_length = if call == OSWORD { out_length } else { 0 };
+        if call == OSWORD && out_length == 0 {
+            return Begun::Complete;
+        }
+        self.wait = 1 + call;
+        self.out_length = out_length;
+        Begun::Waits
+    }
+
+    /// Reads one raw byte.
+    #[inline]
+    pub fn step(&mut self, raw: u8, reply: &mut [u8; LENT], own: &mut [u8; LENT]) -> Told {
+        if self.stopped() {
+            return Told::Refused(READER_STOPPED);
+        }
+        match (unit(self.escape, raw), self.action) {
+            (Unit::Escape, _) => {
+                self.escape = true;
+                Told::More
+            }
+            (Unit::Mark(mark), NO_ACTION) => self.open(mark),
+            (Unit::Mark(_), _) => self.refuse(MARK_INSIDE),
+            (Unit::Data(byte), NO_ACTION) => self.take(byte, reply),
+            (Unit::Data(byte), _) => self.take_own(byte, own),
+        }
+    }
+
+    fn refuse(&mut self, number: u8) -> Told {
+        self.stopped = true;
+        Told::Refused(number)
+    }
+
+    /// Opens the action of a mark; the Escape state has no bytes of its own.
+    fn open(&mut self, mark: u8) -> Told {
+        let (action, told) = match mark {
+            0x00 => (ERROR, Told::More),
+            0x80..=0x8F => (NO_ACTION, Told::Escape(mark & 1 != 0)),
+            0x90..=0x9F => (EVENT, Told::More),
+            0xC0..=0xCF => (ADDRESS, Told::More),
+            _ => return self.refuse(NOT_CARRIED),
+        };
+        self.action = action;
+        self.escape = false;
+        told
+    }
+
+    /// Takes a data byte outside an action.
+    #[inline]
+    fn take(&mut self, byte: u8, reply: &mut [u8; LENT]) -> Told {
+        if self.wait == IDLE {
+            self.escape = false;
+            return Told::Character(byte);
+        }
+        let last = match self.is_last(byte) {
+            Ok(last) => last,
+            Err(number) => return self.refuse(number),
+        };
+        reply[self.got] = byte;
+        self.escape = false;
+        self.got += 1;
+        if !last {
+            return Told::More;
+        }
+        let length = self.got;
+        self.end_call();
+        Told::Reply(length)
+    }
+
+    /// Whether `byte` is the reply's last one, or why it is refused.
+    #[inline]
+    fn is_last(&self, byte: u8) -> Result<bool, u8> {
+        match (self.wait, self.got) {
+            (WAIT_LINE, 0) => Ok(byte & 0x80 != 0),
+            (WAIT_LINE, got) => ends_string(got - 1, byte),
+            (_, got) => Ok(got + 1 == self.most()),
+        }
+    }
+
+    fn end_call(&mut self) {
+        self.wait = IDLE;
+        self.out_length = 0;
+        self.got = 0;
+    }
+
+    /// Takes a data byte of the open action.
+    #[inline]
+    fn take_own(&mut self, byte: u8, own: &mut [u8; LENT]) -> Told {
+        let last = match self.is_last_own(byte) {
+            Ok(last) => last,
+            Err(number) => return self.refuse(number),
+        };
+        own[self.held] = byte;
+        self.escape = false;
+        self.held += 1;
+        if last {
+            self.end_action(own)
+        } else {
+            Told::More
+        }
+    }
+
+    /// Whether `byte` is the action's last one, or why it is refused.
+    #[inline]
+    fn is_last_own(&self, byte: u8) -> Result<bool, u8> {
+        match (self.action, self.held) {
+            (ERROR, 0) => Ok(false),
+            (ERROR, _) if byte == TEXT_END => Ok(true),
+            (ERROR, held) if held > LONGEST_STRING => Err(LONG_STRING),
+            (ERROR, _) => Ok(false),
+            (action, held) => Ok(held + 1 == MOST_OWN[action as usize]),
+        }
+    }
+
+    /// Ends an action whose bytes are all there. An error ends the call too.
+    fn end_action(&mut self, own: &[u8; LENT]) -> Told {
+        let (action, held) = (self.action, self.held);
+        self.action = NO_ACTION;
+        self.held = 0;
+        match action {
+            EVENT => Told::Event([own[0], own[1], own[2]]),
+            ADDRESS => Told::Address([own[0], own[1], own[2], own[3]]),
+            _ => {
+                self.end_call();
+                match (own[0], held - 2) {
+                    (0, 0) => Told::Restart,
+                    (number, length) => Told::Error { number, length },
+                }
+            }
+        }
+    }
+}
+
+// ---- The loop ----
+
+/// The bytes of a note.
+pub const NOTE: usize = 5;
+
+/// Where the loop stopped: the last answer, how many raw bytes it has seen, the
+/// last one among them whatever its answer, and how many notes it has made.
+#[derive(Clone, Copy, PartialEq, Debug)]
+pub struct Ran {
+    pub told: Told,
+    pub used: usize,
+    pub noted: usize,
+}
+
+impl Told {
+    /// The note of a character or an action that the loop passes over.
+    #[inline]
+    pub fn note(self) -> Option<[u8; NOTE]> {
+        match self {
+            Told::Character(byte) => Some([1, byte, 0, 0, 0]),
+            Told::Escape(on) => Some([2, on as u8, 0, 0, 0]),
+            Told::Event([y, x, a]) => Some([3, y, x, a, 0]),
+            Told::Address([a, b, c, d]) => Some([4, a, b, c, d]),
+            _ => None,
+        }
+    }
+}
+
+impl Link {
+    /// Reads up to a finished reply, an error, a restart, a refusal or the end of
+    /// the raw bytes. The notes go into `room`, which must have one for each byte.
+    #[inline]
+    pub fn run(
+        &mut self,
+        raw: &[u8],
+        reply: &mut [u8; LENT],
+        own: &mut [u8; LENT],
+        room: &mut [u8],
+    ) -> Ran {
+        let (notes, _) = room.as_chunks_mut::<NOTE>();
+        let mut noted = 0;
+        if notes.len() < raw.len() {
+            return Ran {
+                told: Told::Refused(SHORT_BUFFER),
+                used: 0,
+                noted,
+            };
+        }
+        for (at, &byte) in raw.iter().enumerate() {
+            let told = self.step(byte, reply, own);
+            if told == Told::More {
+                continue;
+            }
+            let Some(note) = told.note() else {
+                let used = at + 1;
+                return Ran { told, used, noted };
+            };
+            notes[noted] = note;
+            noted += 1;
+        }
+        Ran {
+            told: Told::More,
+            used: raw.len(),
+            noted,
+        }
+    }
+}
+
+// ---- The kind of a request ----
+
+/// The call of a finished request, and its out length.
+pub fn kind_of(code: u8, body: &[u8]) -> (u8, u8) {
+    let call = match code {
+        0x02 => OSCLI,
+        0x04 => OSBYTE_LOW,
+        0x06 => OSBYTE_HIGH,
+        0x08 => return (OSWORD, body.last().copied().unwrap_or(0)),
+        0x0A => OSWORD_0,
+        0x0C => OSARGS,
+        0x0E => OSBGET,
+        0x10 => OSBPUT,
+        0x12 if matches!(body, [] | [0, ..]) => OSFIND_CLOSE,
+        0x12 => OSFIND_OPEN,
+        0x14 => OSFILE,
+        0x16 => OSGBPB,
+        _ => OSRDCH,
+    };
+    (call, 0)
+}
+
+// ---- The fields of a reply ----
+
+// Replies.
+pub const CARRY_A: u8 = 0;
+pub const ACK: u8 = 1;
+pub const NUMBER: u8 = 2;
+pub const CARRY_Y_X: u8 = 3;
+pub const BLOCK: u8 = 4;
+pub const ESCAPED: u8 = 5;
+pub const LINE: u8 = 6;
+pub const A_BLOCK: u8 = 7;
+pub const PLAIN: u8 = 8;
+pub const BLOCK_CARRY_A: u8 = 9;
+/// Of a call that does not exist.
+pub const NO_REPLY: u8 = 10;
+
+/// The fields of a finished reply; 0, or an empty range at 0, where it has none.
+#[derive(Clone, PartialEq, Default, Debug)]
+pub struct Given {
+    pub reply: u8,
+    pub carry: bool,
+    pub x: u8,
+    pub y: u8,
+    pub a: u8,
+    pub block: Range<usize>,
+    pub text: Range<usize>,
+}
+
+/// Takes a finished reply apart. A byte that is not there counts as 0.
+pub fn given(call: u8, bytes: &[u8]) -> Given {
+    let byte = |at: usize| bytes.get(at).copied().unwrap_or(0);
+    let carry = |at: usize| byte(at) & 0x80 != 0;
+    let none = Given::default();
+    match call {
+        OSRDCH | OSBGET => Given {
+            reply: CARRY_A,
+            carry: carry(0),
+            a: byte(1),
+            ..none
+        },
+        OSCLI => Given {
+            reply: ACK,
+            carry: carry(0),
+            ..none
+        },
+        OSBYTE_LOW | OSFIND_OPEN => Given {
+            reply: NUMBER,
+            a: byte(0),
+            ..none
+        },
+        OSBYTE_HIGH => Given {
+            reply: CARRY_Y_X,
+            carry: carry(0),
+            y: byte(1),
+            x: byte(2),
+            ..none
+        },
+        OSWORD => Given {
+            reply: BLOCK,
+            block: 0..bytes.len(),
+            ..none
+        },
+        OSWORD_0 if carry(0) => Given {
+            reply: ESCAPED,
+            ..none
+        },
+        OSWORD_0 => Given {
+            reply: LINE,
+            text: match bytes.len() {
+                ..2 => 0..0,
+                length => 1..length - 1,
+            },
+            ..none
+        },
+        OSARGS | OSFILE => Given {
+            reply: A_BLOCK,
+            a: byte(0),
+            block: bytes.len().min(1)..bytes.len(),
+            ..none
+        },
+        OSBPUT | OSFIND_CLOSE => Given {
+            reply: PLAIN,
+            ..none
+        },
+        OSGBPB => Given {
+            reply: BLOCK_CARRY_A,
+            carry: carry(GBPB_BLOCK),
+            a: byte(GBPB_BLOCK + 1),
+            block: 0..bytes.len().min(GBPB_BLOCK),
+            ..none
+        },
+        _ => Given {
+            reply: NO_REPLY,
+            ..none
+        },
+    }
+}
+
+// ---- The writer ----
+
+/// A reply to be written. Numbers that the reply does not have are ignored.
+#[derive(Clone, Copy, Debug)]
+pub struct Reply<'a> {
+    /// The call that waits, and OSWORD's out length.
+    pub call: u8,
+    pub out_length: u8,
+    pub reply: u8,
+    /// The carry, or the acknowledgement.
+    pub carry: bool,
+    pub x: u8,
+    pub y: u8,
+    pub a: u8,
+    pub block: &'a [u8],
+    pub text: &'a [u8],
+}
+
+/// A few bytes.
+#[derive(Default)]
+struct Few {
+    bytes: [u8; 3],
+    length: usize,
+}
+
+impl Few {
+    #[inline]
+    fn new(few: &[u8]) -> Few {
+        let mut bytes = [0; 3];
+        bytes[..few.len()].copy_from_slice(few);
+        Few {
+            bytes,
+            length: few.len(),
+        }
+    }
+
+    fn as_slice(&self) -> &[u8] {
+        &self.bytes[..self.length]
+    }
+}
+
+/// The fields of a reply around its block and its line.
+#[derive(Default)]
+struct Fields {
+    head: Few,
+    block: usize,
+    line: bool,
+    tail: Few,
+}
+
+impl Fields {
+    #[inline]
+    fn new(head: &[u8]) -> Fields {
+        Fields {
+            head: Few::new(head),
+            ..Fields::default()
+        }
+    }
+
+    #[inline]
+    fn block(self, block: usize) -> Fields {
+        Fields { block, ..self }
+    }
+
+    #[inline]
+    fn line(self) -> Fields {
+        Fields { line: true, ..self }
+    }
+
+    #[inline]
+    fn tail(self, tail: &[u8]) -> Fields {
+        Fields {
+            tail: Few::new(tail),
+            ..self
+        }
+    }
+}
+
+impl Reply<'_> {
+    /// Nothing where the reply does not fit the call.
+    #[inline]
+    fn fields(&self) -> Option<Fields> {
+        let Reply { x, y, a, .. } = *self;
+        let carry = if self.carry { 0x80 } else { 0x00 };
+        let ack = if self.carry { 0x80 } else { 0x7F };
+        let fields = match (self.call, self.reply) {
+            (OSRDCH | OSBGET, CARRY_A) => Fields::new(&[carry, a]),
+            (OSCLI, ACK) => Fields::new(&[ack]),
+            (OSBYTE_LOW | OSFIND_OPEN, NUMBER) => Fields::new(&[a]),
+            (OSBYTE_HIGH, CARRY_Y_X) => Fields::new(&[carry, y, x]),
+            (OSWORD, BLOCK) => Fields::new(&[]).block(self.out_length as usize),
+            (OSWORD_0, ESCAPED) => Fields::new(&[0xFF]),
+            (OSWORD_0, LINE) => Fields::new(&[0x7F]).line(),
+            (OSARGS, A_BLOCK) => Fields::new(&[a]).block(ARGS_BLOCK),
+            (OSFILE, A_BLOCK) => Fields::new(&[a]).block(FILE_BLOCK),
+            (OSBPUT | OSFIND_CLOSE, PLAIN) => Fields::new(&[0x7F]),
+            (OSGBPB, BLOCK_CARRY_A) => Fields::new(&[]).block(GBPB_BLOCK).tail(&[carry, a]),
+            _ => return None,
+        };
+        Some(fields)
+    }
+
+    /// Writes the reply to the start of `out`: the length of the encoding, or the
+    /// refusal.
+    pub fn write(&self, out: &mut [u8]) -> Result<usize, u8> {
+        let (block, text) = (self.block, self.text);
+        if text.len() > LONGEST_STRING {
+            return Err(LONG_STRING);
+        }
+        let fields = self.fields().ok_or(BROKEN_RULE)?;
+        if block.len() != fields.block
+            || !fields.line && !text.is_empty()
+            || text.contains(&STRING_END)
+        {
+            return Err(BROKEN_RULE);
+        }
+        let end: &[u8] = if fields.line { &[STRING_END] } else { &[] };
+        let (head, tail) = (fields.head.as_slice(), fields.tail.as_slice());
+        put_serial(out, &[], [head, block, text, end, tail])
+    }
+}
+
+#[cfg(test)]
+mod tests {
+    use super::serial::{Read, Reader, SERIAL};
+    use super::*;
+
+    const MORE: Told = Told::More;
+
+    /// A link with both lent arrays, all of their bytes &EE.
+    struct Bench {
+        link: Link,
+        reply: [u8; LENT],
+        own: [u8; LENT],
+    }
+
+    impl Bench {
+        fn new() -> Bench {
+            Bench {
+                link: Link::new(),
+                reply: [0xEE; LENT],
+                own: [0xEE; LENT],
+            }
+        }
+
+        fn waiting(call: u8, out_length: u8) -> Bench {
+            let mut bench = Bench::new();
+            assert_eq!(bench.link.begin(call, out_length), Begun::Waits);
+            bench
+        }
+
+        /// One byte; exactly the taken byte changes in the lent arrays, and
+        /// nothing where it is refused.
+        fn step(&mut self, raw: u8) -> Told {
+            let (link, mut reply, mut own) = (self.link, self.reply, self.own);
+            let told = self.link.step(raw, &mut self.reply, &mut self.own);
+            let data = link.escape == (raw == 0x9B);
+            match (told, link.action, link.wait) {
+                (Told::Refused(number), _, _) => {
+                    assert_eq!(number == 7, link.stopped());
+                    let stopped = link.stopped || number != 7;
+                    assert_eq!(self.link, Link { stopped, ..link });
+                }
+                _ if !data => {}
+                (_, NO_ACTION, IDLE) => {}
+                (_, NO_ACTION, _) => reply[link.got] = raw,
+                _ => own[link.held] = raw,
+            }
+            assert!(self.reply == reply && self.own == own);
+            told
+        }
+
+        fn steps(&mut self, raw: &[u8]) -> Vec<Told> {
+            raw.iter().map(|&byte| self.step(byte)).collect()
+        }
+
+        /// The last answer, all before it being need-more.
+        fn last(&mut self, raw: &[u8]) -> Told {
+            let answers = self.steps(raw);
+            let (last, before) = answers.split_last().unwrap();
+            assert!(before.iter().all(|&told| told == MORE), "{answers:?}");
+            *last
+        }
+
+        fn idle(&self) -> bool {
+            self.link == Link::new()
+        }
+    }
+
+    fn error(number: u8, length: usize) -> Told {
+        Told::Error { number, length }
+    }
+
+    /// A reply of a call with nothing in it.
+    fn blank(call: u8, reply: u8) -> Reply<'static> {
+        Reply {
+            call,
+            out_length: 0,
+            reply,
+            carry: false,
+            x: 0,
+            y: 0,
+            a: 0,
+            block: &[],
+            text: &[],
+        }
+    }
+
+    // ---- The link ----
+
+    #[test]
+    fn c10_reply_to_osargs() {
+        let stream = [0x01, 0x00, 0x00, 0x01, 0x9B, 0x9B];
+        let mut bench = Bench::waiting(OSARGS, 0);
+        assert_eq!(bench.last(&stream), Told::Reply(5));
+        assert!(bench.idle());
+        assert_eq!(bench.reply[..5], [1, 0, 0, 1, 0x9B]);
+        assert!(bench.reply[5..].iter().all(|&byte| byte == 0xEE));
+        let given = given(OSARGS, &bench.reply[..5]);
+        let expected = Given {
+            reply: A_BLOCK,
+            a: 1,
+            block: 1..5,
+            ..Given::default()
+        };
+        assert_eq!(given, expected);
+        let osargs = Reply {
+            a: 1,
+            block: &[0, 0, 1, 0x9B],
+            ..blank(OSARGS, A_BLOCK)
+        };
+        let mut out = [0; 6];
+        assert_eq!(osargs.write(&mut out), Ok(6));
+        assert_eq!(out, stream);
+    }
+
+    #[test]
+    fn c13_osword_complete_when_begun() {
+        let mut reader = Reader::new(SERIAL);
+        let mut body = [0; serial::BODY];
+        for raw in [0x9B, 0x08, 0x01, 0x00] {
+            assert_eq!(reader.read(raw, &mut body), Read::More);
+        }
+        let Read::Request { code, length, .. } = reader.read(0x00, &mut body) else {
+            panic!();
+        };
+        assert_eq!(kind_of(code, &body[..length]), (OSWORD, 0));
+        let mut bench = Bench::new();
+        assert_eq!(bench.link.begin(OSWORD, 0), Begun::Complete);
+        assert!(bench.idle());
+        assert_eq!(bench.step(0x41), Told::Character(0x41));
+        let nothing = blank(OSWORD, BLOCK);
+        assert_eq!(nothing.write(&mut []), Ok(0));
+    }
+
+    #[test]
+    fn c15_escape_inside_a_reply() {
+        let mut bench = Bench::waiting(OSBGET, 0);
+        let answers = bench.steps(&[0x80, 0x9B, 0x81, 0x41]);
+        assert_eq!(answers, [MORE, MORE, Told::Escape(true), Told::Reply(2)]);
+        let given = given(OSBGET, &bench.reply[..2]);
+        assert_eq!((given.reply, given.carry, given.a), (CARRY_A, true, 0x41));
+    }
+
+    #[test]
+    fn every_reply_ends_at_its_last_byte() {
+        for call in 0..CALLS {
+            for out_length in [0, 1, 2, 255] {
+                if call == OSWORD && out_length == 0 {
+                    continue;
+                }
+                let length = match call {
+                    OSWORD => out_length as usize,
+                    OSWORD_0 => 3,
+                    _ => MOST[call as usize],
+                };
+                let mut plain = vec![0x41; length];
+                if call == OSWORD_0 {
+                    plain[2] = 0x0D;
+                }
+                let mut bench = Bench::waiting(call, out_length);
+                assert_eq!(bench.last(&plain), Told::Reply(length));
+                assert!(bench.idle());
+                assert_eq!(bench.reply[..length], plain);
+                assert_eq!(bench.step(0x42), Told::Character(0x42));
+            }
+        }
+    }
+
+    #[test]
+    fn escaped_and_lines() {
+        for first in 0x80..=0xFF {
+            let mut bench = Bench::waiting(OSWORD_0, 0);
+            let stream: &[u8] = if first == 0x9B { &[0x9B; 2] } else { &[first] };
+            assert_eq!(bench.last(stream), Told::Reply(1));
+            assert!(bench.idle());
+        }
+        for first in 0x00..=0x7F {
+            let mut bench = Bench::waiting(OSWORD_0, 0);
+            assert_eq!(bench.last(&[first, 0x0D]), Told::Reply(2));
+        }
+    }
+
+    #[test]
+    fn the_256th_line_byte() {
+        let line = [&[0x7F][..], &[0x20; 255]].concat();
+        let mut bench = Bench::waiting(OSWORD_0, 0);
+        assert_eq!(bench.last(&line), MORE);
+        assert_eq!(bench.step(0x0D), Told::Reply(257));
+
+        for refused in [0x20, 0x00, 0x9B] {
+            let mut bench = Bench::waiting(OSWORD_0, 0);
+            assert_eq!(bench.last(&line), MORE);
+            if refused == 0x9B {
+                assert_eq!(bench.step(0x9B), MORE);
+            }
+            assert_eq!(bench.step(refused), Told::Refused(6));
+            assert_eq!(bench.reply[256], 0xEE);
+            assert_eq!(bench.step(0x0D), Told::Refused(7));
+        }
+    }
+
+    #[test]
+    fn the_256th_text_byte() {
+        let text = [&[0x9B, 0x00, 0x11][..], &[0x0D; 255]].concat();
+        for call in [None, Some(OSCLI)] {
+            let open = || match call {
+                Some(call) => Bench::waiting(call, 0),
+                None => Bench::new(),
+            };
+            let mut bench = open();
+            assert_eq!(bench.last(&text), MORE);
+            assert_eq!(bench.step(0x00), error(0x11, 255));
+            assert!(bench.idle());
+            assert_eq!(bench.own[..2], [0x11, 0x0D]);
+            assert_eq!(bench.own[256], 0x00);
+
+            let mut bench = open();
+            assert_eq!(bench.last(&text), MORE);
+            assert_eq!(bench.step(0x0D), Told::Refused(6));
+            assert_eq!(bench.own[256], 0xEE);
+            assert_eq!(bench.link.begin(OSCLI, 0), Begun::Refused(7));
+        }
+    }
+
+    #[test]
+    fn every_mark_outside_an_action() {
+        for wait in [None, Some(OSFILE)] {
+            for mark in (0..=255).filter(|&mark| mark != 0x9B) {
+                let mut bench = match wait {
+                    Some(call) => Bench::waiting(call, 0),
+                    None => Bench::new(),
+                };
+                let before = bench.link;
+                let (told, action) = match mark {
+                    0x00 => (MORE, ERROR),
+                    0x80..=0x8F => (Told::Escape(mark % 2 == 1), NO_ACTION),
+                    0x90..=0x9F => (MORE, EVENT),
+                    0xC0..=0xCF => (MORE, ADDRESS),
+                    _ => (Told::Refused(4), NO_ACTION),
+                };
+                assert_eq!(bench.last(&[0x9B, mark]), told);
+                let stopped = told == Told::Refused(4);
+                let after = Link {
+                    action,
+                    escape: stopped,
+                    stopped,
+                    ..before
+                };
+                assert_eq!(bench.link, after);
+            }
+        }
+    }
+
+    #[test]
+    fn a_mark_inside_an_action() {
+        let actions: [&[u8]; 5] = [
+            &[0x9B, 0x00],
+            &[0x9B, 0x00, 0x05, 0x41],
+            &[0x9B, 0x90],
+            &[0x9B, 0x9F, 1, 2],
+            &[0x9B, 0xC0, 1, 2, 3],
+        ];
+        for action in actions {
+            for mark in (0..=255).filter(|&mark| mark != 0x9B) {
+                let mut bench = Bench::waiting(OSBGET, 0);
+                assert_eq!(bench.last(action), MORE);
+                assert_eq!(bench.last(&[0x9B, mark]), Told::Refused(5));
+                assert_eq!(bench.step(mark), Told::Refused(7));
+            }
+        }
+    }
+
+    #[test]
+    fn actions_report_their_bytes() {
+        let mut bench = Bench::new();
+        let event = [0x9B, 0x9F, 0x9B, 0x9B, 0x02, 0x03];
+        assert_eq!(bench.last(&event), Told::Event([0x9B, 2, 3]));
+        let address = [0x9B, 0xCB, 0xFF, 0x00, 0x9B, 0x9B, 0x04];
+        assert_eq!(
+            bench.last(&address),
+            Told::Address([0xFF, 0x00, 0x9B, 0x04])
+        );
+        assert_eq!(bench.last(&[0x9B, 0x8E]), Told::Escape(false));
+        assert!(bench.idle());
+    }
+
+    #[test]
+    fn actions_leave_the_reply_at_its_place() {
+        let actions: [(&[u8], Told); 3] = [
+            (&[0x9B, 0x80], Told::Escape(false)),
+            (&[0x9B, 0x90, 1, 2, 3], Told::Event([1, 2, 3])),
+            (&[0x9B, 0xC5, 1, 2, 3, 4], Told::Address([1, 2, 3, 4])),
+        ];
+        for (action, told) in actions {
+            let mut bench = Bench::waiting(OSARGS, 0);
+            for at in 0..5 {
+                assert_eq!(bench.last(action), told);
+                let end = if at == 4 { Told::Reply(5) } else { MORE };
+                assert_eq!(bench.step(0x10 + at), end);
+            }
+            assert_eq!(bench.reply[..5], [0x10, 0x11, 0x12, 0x13, 0x14]);
+        }
+    }
+
+    #[test]
+    fn errors_and_restarts_end_the_call() {
+        let cases: [(&[u8], Told); 5] = [
+            (&[0x9B, 0, 0, 0], Told::Restart),
+            (&[0x9B, 0, 1, 0], error(1, 0)),
+            (&[0x9B, 0, 0, 0x41, 0], error(0, 1)),
+            (&[0x9B, 0, 0x9B, 0x9B, 0x0D, 0x80, 0], error(0x9B, 2)),
+            (&[0x9B, 0, 0, 0x9B, 0x9B, 0], error(0, 1)),
+        ];
+        for (stream, told) in cases {
+            let mut bench = Bench::waiting(OSWORD, 200);
+            assert_eq!(bench.last(&[1, 2, 3]), MORE);
+            assert_eq!(bench.last(stream), told);
+            assert!(bench.idle());
+            assert_eq!(bench.step(0x41), Told::Character(0x41));
+
+            let mut bench = Bench::new();
+            assert_eq!(bench.last(stream), told);
+            assert!(bench.idle());
+        }
+    }
+
+    // ---- Calls begun ----
+
+    #[test]
+    fn begin_inside_an_escape_pair() {
+        let mut bench = Bench::new();
+        assert_eq!(bench.step(0x9B), MORE);
+        assert_eq!(bench.link.begin(OSBGET, 9), Begun::Waits);
+        assert!(bench.link.escape);
+        assert_eq!(bench.link.out_length, 0);
+        assert_eq!(bench.last(&[0x9B, 0x41]), Told::Reply(2));
+        assert_eq!(bench.reply[..2], [0x9B, 0x41]);
+    }
+
+    #[test]
+    fn begin_inside_an_action() {
+        let mut bench = Bench::new();
+        assert_eq!(bench.last(&[0x9B, 0x90, 1, 2]), MORE);
+        assert_eq!(bench.link.begin(OSWORD, 3), Begun::Waits);
+        assert_eq!(bench.step(3), Told::Event([1, 2, 3]));
+        assert_eq!(bench.last(&[4, 5, 6]), Told::Reply(3));
+        assert_eq!(bench.reply[..3], [4, 5, 6]);
+    }
+
+    #[test]
+    fn an_error_opened_idle_ends_a_call_begun_later() {
+        for (stream, told) in [(&[7, 0x41, 0][..], error(7, 1)), (&[0, 0], Told::Restart)] {
+            for before in 0..stream.len() {
+                let mut bench = Bench::new();
+                assert_eq!(bench.last(&[0x9B, 0x00]), MORE);
+                assert!(
+                    bench
+                        .steps(&stream[..before])
+                        .iter()
+                        .all(|&told| told == MORE)
+                );
+                assert_eq!(bench.link.begin(OSCLI, 0), Begun::Waits);
+                assert_eq!(bench.last(&stream[before..]), told);
+                assert!(bench.idle());
+                assert_eq!(bench.link.begin(OSCLI, 0), Begun::Waits);
+            }
+        }
+    }
+
+    #[test]
+    fn refused_begins() {
+        let mut bench = Bench::waiting(OSFILE, 0);
+        assert_eq!(bench.step(1), MORE);
+        let link = bench.link;
+        for call in 0..=255 {
+            let number = if call < CALLS { 12 } else { 7 };
+            assert_eq!(bench.link.begin(call, 0), Begun::Refused(number));
+            assert_eq!(bench.link, link);
+        }
+        assert_eq!(bench.last(&[0x9B, 0xA0]), Told::Refused(4));
+        let link = bench.link;
+        for call in 0..=255 {
+            assert_eq!(bench.link.begin(call, 1), Begun::Refused(7));
+            assert_eq!(bench.link, link);
+        }
+    }
+
+    #[test]
+    fn records_beyond_their_limits() {
+        let record = |wait: u8, out_length: u8, got: usize, action: u8, held: usize| Link {
+            wait,
+            out_length,
+            got,
+            action,
+            held,
+            ..Link::new()
+        };
+        assert!(!record(0, 255, 0, 0, 0).stopped());
+        assert!(record(0, 0, 1, 0, 0).stopped());
+        assert!(record(0, 0, 0, 0, 1).stopped());
+        assert!(record(14, 0, 0, 0, 0).stopped());
+        assert!(record(0, 0, 0, 4, 0).stopped());
+        for call in 0..CALLS {
+            let most = match call {
+                OSWORD => 255,
+                _ => MOST[call as usize],
+            };
+            assert!(!record(1 + call, 255, most - 1, 0, 0).stopped());
+            assert!(record(1 + call, 255, most, 0, 0).stopped());
+        }
+        assert!(record(WAIT_BLOCK, 0, 0, 0, 0).stopped());
+        for (action, most) in [(ERROR, 257), (EVENT, 3), (ADDRESS, 4)] {
+            assert!(!record(0, 0, 0, action, most - 1).stopped());
+            assert!(record(0, 0, 0, action, most).stopped());
+            assert!(record(0, 0, 0, action, usize::MAX).stopped());
+        }
+    }
+
+    // ---- The loop ----
+
+    #[test]
+    fn the_loop_notes_what_it_passes_over() {
+        let stream = [
+            0x41, 0x9B, 0x9B, 0x9B, 0x81, 0x9B, 0x90, 1, 2, 3, 0x9B, 0xC0, 4, 5, 6, 7, 0x9B, 0x00,
+            8, 0x42, 0, 0x43,
+        ];
+        let notes = [
+            [1, 0x41, 0, 0, 0],
+            [1, 0x9B, 0, 0, 0],
+            [2, 1, 0, 0, 0],
+            [3, 1, 2, 3, 0],
+            [4, 4, 5, 6, 7],
+        ];
+        let mut bench = Bench::new();
+        let mut room = [0xDD; 5 * 22 + 3];
+        let ran = bench
+            .link
+            .run(&stream, &mut bench.reply, &mut bench.own, &mut room);
+        let told = error(8, 1);
+        assert_eq!(
+            ran,
+            Ran {
+                told,
+                used: 21,
+                noted: 5
+            }
+        );
+        assert_eq!(room[..25], *notes.as_flattened());
+        assert!(room[25..].iter().all(|&byte| byte == 0xDD));
+        let ran = bench
+            .link
+            .run(&stream[21..], &mut bench.reply, &mut bench.own, &mut room);
+        let told = MORE;
+        assert_eq!(
+            ran,
+            Ran {
+                told,
+                used: 1,
+                noted: 1
+            }
+        );
+    }
+
+    #[test]
+    fn the_loop_tests_its_room_first() {
+        let mut bench = Bench::waiting(OSARGS, 0);
+        let (before, reply, own) = (bench.link, bench.reply, bench.own);
+        for length in 0..30 {
+            let mut room = vec![0xDD; length];
+            let raw = [1, 0x9B, 0x00, 0, 0, 0];
+            let ran = bench
+                .link
+                .run(&raw, &mut bench.reply, &mut bench.own, &mut room);
+            let refused = Ran {
+                told: Told::Refused(8),
+                used: 0,
+                noted: 0,
+            };
+            assert_eq!(ran, refused);
+            assert_eq!(bench.link, before);
+            assert!(bench.reply == reply && bench.own == own);
+            assert!(room.iter().all(|&byte| byte == 0xDD));
+        }
+    }
+
+    #[test]
+    fn the_loop_on_a_stopped_link() {
+        let mut bench = Bench::new();
+        bench.link.stopped = true;
+        let before = bench.link;
+        for length in 0..3 {
+            let mut room = [0; 15];
+            let raw = &[0x41; 2][..length.min(2)];
+            let ran = bench
+                .link
+                .run(raw, &mut bench.reply, &mut bench.own, &mut room);
+            let (told, used) = match length {
+                0 => (MORE, 0),
+                _ => (Told::Refused(7), 1),
+            };
+            let noted = 0;
+            assert_eq!(ran, Ran { told, used, noted });
+            assert_eq!(bench.link, before);
+        }
+    }
+
+    #[test]
+    fn the_loop_gives_what_the_steps_give() {
+        let stream = [
+            0x9B, 0x90, 1, 2, 3, 0x80, 0x9B, 0x81, 0x41, 0x42, 0x9B, 0x9B, 0x9B, 0x00, 0, 0, 0x9B,
+            0x33, 0x44,
+        ];
+        for cut in 0..stream.len() {
+            let (mut whole, mut cut_up) = (Bench::waiting(OSBGET, 0), Bench::waiting(OSBGET, 0));
+            let passed = |told: &Told| *told != MORE;
+            let answers: Vec<Told> = whole.steps(&stream).into_iter().filter(passed).collect();
+            let mut found = Vec::new();
+            for mut piece in [&stream[..cut], &stream[cut..]] {
+                while !piece.is_empty() {
+                    let mut room = [0; 5 * 19];
+                    let Bench { link, reply, own } = &mut cut_up;
+                    let ran = link.run(piece, reply, own, &mut room);
+                    let notes = room.as_chunks::<NOTE>().0[..ran.noted].iter().copied();
+                    found.extend(notes.map(Some));
+                    if ran.told != MORE {
+                        found.push(None);
+                    }
+                    piece = &piece[ran.used..];
+                }
+            }
+            let expected: Vec<Option<[u8; NOTE]>> =
+                answers.iter().map(|&told| told.note()).collect();
+            assert_eq!(found, expected);
+            assert_eq!(cut_up.link, whole.link);
+            assert!(cut_up.reply == whole.reply && cut_up.own == whole.own);
+        }
+    }
+
+    // ---- The writer and the fields ----
+
+    /// The reply read again from its encoding; `bytes` are its plain bytes.
+    fn read_back(reply: &Reply, encoding: &[u8], bytes: &[u8]) -> Given {
+        let mut bench = Bench::waiting(reply.call, reply.out_length);
+        assert_eq!(bench.last(encoding), Told::Reply(bytes.len()));
+        assert_eq!(bench.reply[..bytes.len()], *bytes);
+        given(reply.call, &bench.reply[..bytes.len()])
+    }
+
+    #[test]
+    fn each_reply_written_and_read_again() {
+        let bytes: Vec<u8> = (0..=255).collect();
+        let line: Vec<u8> = bytes.iter().copied().filter(|&byte| byte != 0x0D).collect();
+        let whole = [&[0x7F], &line[..], &[0x0D]].concat();
+        let block = &bytes[0x90..];
+        let none: &[u8] = &[];
+        let cases: [(u8, u8, &[u8], &[u8], Vec<u8>); 15] = [
+            (OSRDCH, CARRY_A, none, none, vec![0x80, 0x9B]),
+            (OSCLI, ACK, none, none, vec![0x80]),
+            (OSBYTE_LOW, NUMBER, none, none, vec![0x9B]),
+            (OSBYTE_HIGH, CARRY_Y_X, none, none, vec![0x80, 8, 7]),
+            (OSWORD, BLOCK, &bytes[..0x9B], none, bytes[..0x9B].to_vec()),
+            (OSWORD_0, ESCAPED, none, none, vec![0xFF]),
+            (OSWORD_0, LINE, none, &line, whole),
+            (OSWORD_0, LINE, none, none, vec![0x7F, 0x0D]),
+            (
+                OSARGS,
+                A_BLOCK,
+                &block[9..13],
+                none,
+                [&[0x9B], &block[9..13]].concat(),
+            ),
+            (OSBGET, CARRY_A, none, none, vec![0x80, 0x9B]),
+            (OSBPUT, PLAIN, none, none, vec![0x7F]),
+            (OSFIND_CLOSE, PLAIN, none, none, vec![0x7F]),
+            (OSFIND_OPEN, NUMBER, none, none, vec![0x9B]),
+            (
+                OSFILE,
+                A_BLOCK,
+                &block[..16],
+                none,
+                [&[0x9B], &block[..16]].concat(),
+            ),
+            (
+                OSGBPB,
+                BLOCK_CARRY_A,
+                &block[..13],
+                none,
+                [&block[..13], &[0x80, 0x9B]].concat(),
+            ),
+        ];
+        for (call, reply, block, text, plain) in cases {
+            let written = Reply {
+                call,
+                out_length: 0x9B,
+                reply,
+                carry: true,
+                x: 7,
+                y: 8,
+                a: 0x9B,
+                block,
+                text,
+            };
+            let mut out = vec![0xDD; 600];
+            let size = written.write(&mut out).unwrap();
+            let doubled = plain.iter().filter(|&&byte| byte == 0x9B).count();
+            assert_eq!(size, plain.len() + doubled);
+            assert!(out[size..].iter().all(|&byte| byte == 0xDD));
+            let read = read_back(&written, &out[..size], &plain);
+            assert_eq!(read.reply, reply);
+            assert_eq!(plain[read.block], *block);
+            assert_eq!(plain[read.text], *text);
+
+            let mut short = vec![0xDD; size - 1];
+            assert_eq!(written.write(&mut short), Err(8));
+            assert!(short.iter().all(|&byte| byte == 0xDD));
+            assert_eq!(written.write(&mut out[..size]), Ok(size));
+        }
+    }
+
+    #[test]
+    fn clear_carries_and_acks() {
+        let cases: [(u8, u8, &[u8]); 3] = [
+            (OSRDCH, CARRY_A, &[0x00, 0x00]),
+            (OSCLI, ACK, &[0x7F]),
+            (OSBYTE_HIGH, CARRY_Y_X, &[0x00, 0x00, 0x00]),
+        ];
+        for (call, reply, plain) in cases {
+            let written = blank(call, reply);
+            let mut out = [0xDD; 4];
+            assert_eq!(written.write(&mut out), Ok(plain.len()));
+            assert_eq!(out[..plain.len()], *plain);
+            assert!(!read_back(&written, plain, plain).carry);
+        }
+    }
+
+    #[test]
+    fn every_reply_to_every_call() {
+        let good = [
+            (OSRDCH, CARRY_A),
+            (OSCLI, ACK),
+            (OSBYTE_LOW, NUMBER),
+            (OSBYTE_HIGH, CARRY_Y_X),
+            (OSWORD, BLOCK),
+            (OSWORD_0, ESCAPED),
+            (OSWORD_0, LINE),
+            (OSARGS, A_BLOCK),
+            (OSBGET, CARRY_A),
+            (OSBPUT, PLAIN),
+            (OSFIND_CLOSE, PLAIN),
+            (OSFIND_OPEN, NUMBER),
+            (OSFILE, A_BLOCK),
+            (OSGBPB, BLOCK_CARRY_A),
+        ];
+        for call in 0..=255 {
+            for reply in 0..=255 {
+                let length = match call {
+                    OSARGS => 4,
+                    OSFILE => 16,
+                    OSGBPB => 13,
+                    _ => 0,
+                };
+                let block = &[0; 16][..length];
+                let written = Reply {
+                    block,
+                    ..blank(call, reply)
+                };
+                let fits = written.write(&mut [0; 40]) != Err(9);
+                assert_eq!(fits, good.contains(&(call, reply)));
+                let text = &[0; 256];
+                let long = Reply { text, ..written };
+                assert_eq!(long.write(&mut [0; 600]), Err(6));
+            }
+        }
+    }
+
+    #[test]
+    fn blocks_and_lines_that_do_not_fit() {
+        let write = |reply: Reply| reply.write(&mut [0; 600]);
+        let line = blank(OSWORD_0, LINE);
+        let text = &[0x0D];
+        assert_eq!(write(Reply { text, ..line }), Err(9));
+        let text = &[0x41];
+        assert_eq!(write(Reply { text, ..line }), Ok(3));
+        let escaped = blank(OSWORD_0, ESCAPED);
+        assert_eq!(write(Reply { text, ..escaped }), Err(9));
+        let block = &[0x41];
+        assert_eq!(write(Reply { block, ..line }), Err(9));
+        let ack = blank(OSCLI, ACK);
+        assert_eq!(write(Reply { block, ..ack }), Err(9));
+        for out_length in 0..=255 {
+            let block = &[0; 255][..out_length as usize];
+            let osword = Reply {
+                out_length,
+                block,
+                ..blank(OSWORD, BLOCK)
+            };
+            assert_eq!(write(osword), Ok(block.len()));
+            let out_length = out_length.wrapping_add(1);
+            let osword = Reply {
+                out_length,
+                ..osword
+            };
+            assert_eq!(write(osword), Err(9));
+        }
+    }
+
+    #[test]
+    fn fields_of_bytes_that_are_not_there() {
+        for call in 0..=255 {
+            let given = given(call, &[]);
+            assert!(!given.carry);
+            assert_eq!((given.x, given.y, given.a), (0, 0, 0));
+            assert_eq!((given.block, given.text), (0..0, 0..0));
+        }
+        assert_eq!(given(OSWORD_0, &[0x00]).text, 0..0);
+        assert_eq!(given(OSWORD_0, &[0x00, 0x0D]).text, 1..1);
+        assert_eq!(given(OSWORD_0, &[0x80, 0x0D]).reply, ESCAPED);
+        assert_eq!(given(OSGBPB, &[0xFF; 12]).block, 0..12);
+        let gbpb = given(OSGBPB, &[0xFF; 14]);
+        assert_eq!((gbpb.block, gbpb.carry, gbpb.a), (0..13, true, 0));
+        assert_eq!(given(CALLS, &[0xFF; 20]).reply, NO_REPLY);
+    }
+
+    #[test]
+    fn kinds_of_requests() {
+        let codes = [
+            0x00, 0x02, 0x04, 0x06, 0x08, 0x0A, 0x0C, 0x0E, 0x10, 0x12, 0x12, 0x14, 0x16,
+        ];
+        for (call, code) in codes.into_iter().enumerate() {
+            let body = match call as u8 {
+                OSFIND_CLOSE => [0, 8, 9],
+                _ => [7, 8, 9],
+            };
+            let out_length = if call as u8 == OSWORD { 9 } else { 0 };
+            assert_eq!(kind_of(code, &body), (call as u8, out_length));
+        }
+        assert_eq!(kind_of(0x08, &[]), (OSWORD, 0));
+        assert_eq!(kind_of(0x12, &[]), (OSFIND_CLOSE, 0));
+        for code in (0..=255).filter(|code| !codes.contains(code)) {
+            assert_eq!(kind_of(code, &[1]), (OSRDCH, 0));
+        }
+    }
+}
