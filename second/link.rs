@@ -904,7 +904,9 @@ mod tests {
         for (action, told) in actions {
             let mut bench = Bench::waiting(OSARGS, 0);
             for at in 0..5 {
+                let before = bench.link;
                 assert_eq!(bench.last(action), told);
+                assert_eq!(bench.link, before);
                 let end = if at == 4 { Told::Reply(5) } else { MORE };
                 assert_eq!(bench.step(0x10 + at), end);
             }
@@ -1031,44 +1033,40 @@ mod tests {
     #[test]
     fn the_loop_notes_what_it_passes_over() {
         let stream = [
-            0x41, 0x9B, 0x9B, 0x9B, 0x81, 0x9B, 0x90, 1, 2, 3, 0x9B, 0xC0, 4, 5, 6, 7, 0x9B, 0x00,
-            8, 0x42, 0, 0x43,
+            0x41, 0x9B, 0x9B, 0x9B, 0x81, 0x9B, 0x80, 0x9B, 0x90, 1, 2, 3, 0x9B, 0xC0, 4, 5, 6, 7,
+            0x9B, 0x00, 8, 0x42, 0, 0x43,
         ];
         let notes = [
             [1, 0x41, 0, 0, 0],
             [1, 0x9B, 0, 0, 0],
             [2, 1, 0, 0, 0],
+            [2, 0, 0, 0, 0],
             [3, 1, 2, 3, 0],
             [4, 4, 5, 6, 7],
         ];
-        let mut bench = Bench::new();
-        let mut room = [0xDD; 5 * 22 + 3];
-        let ran = bench
-            .link
-            .run(&stream, &mut bench.reply, &mut bench.own, &mut room);
-        let told = error(8, 1);
-        assert_eq!(
-            ran,
-            Ran {
-                told,
-                used: 21,
-                noted: 5
-            }
-        );
-        assert_eq!(room[..25], *notes.as_flattened());
-        assert!(room[25..].iter().all(|&byte| byte == 0xDD));
-        let ran = bench
-            .link
-            .run(&stream[21..], &mut bench.reply, &mut bench.own, &mut room);
-        let told = MORE;
-        assert_eq!(
-            ran,
-            Ran {
-                told,
-                used: 1,
-                noted: 1
-            }
-        );
+        let Bench {
+            mut link,
+            mut reply,
+            mut own,
+        } = Bench::new();
+        let mut room = [0xDD; 5 * 24 + 3];
+        let Ran { told, used, noted } = link.run(&stream, &mut reply, &mut own, &mut room);
+        assert_eq!((told, used, noted), (error(8, 1), 23, 6));
+        assert_eq!(room[..30], *notes.as_flattened());
+        assert!(room[30..].iter().all(|&byte| byte == 0xDD));
+
+        let mut room = [0xDD; 5 + 4];
+        let Ran { told, used, noted } = link.run(&stream[23..], &mut reply, &mut own, &mut room);
+        assert_eq!((told, used, noted), (MORE, 1, 1));
+        assert_eq!(room, [1, 0x43, 0, 0, 0, 0xDD, 0xDD, 0xDD, 0xDD]);
+
+        let mut room = [0xDD; 5 * 300];
+        let Ran { told, used, noted } = link.run(&[0x41; 300], &mut reply, &mut own, &mut room);
+        assert_eq!((told, used, noted), (MORE, 300, 300));
+        assert!(room.chunks(5).all(|note| note == [1, 0x41, 0, 0, 0]));
+        let mut room = [0xDD; 5 * 2];
+        link.run(&[0x9B, 0x9B], &mut reply, &mut own, &mut room);
+        assert!(room[5..].iter().all(|&byte| byte == 0xDD));
     }
 
     #[test]
@@ -1120,26 +1118,30 @@ mod tests {
             0x9B, 0x90, 1, 2, 3, 0x80, 0x9B, 0x81, 0x41, 0x42, 0x9B, 0x9B, 0x9B, 0x00, 0, 0, 0x9B,
             0x33, 0x44,
         ];
-        for cut in 0..stream.len() {
-            let (mut whole, mut cut_up) = (Bench::waiting(OSBGET, 0), Bench::waiting(OSBGET, 0));
-            let passed = |told: &Told| *told != MORE;
-            let answers: Vec<Told> = whole.steps(&stream).into_iter().filter(passed).collect();
+        // What is noted, and where the loop stops.
+        let passed_over = |told: Told| told.note().ok_or(told);
+        for at in 0..2 * stream.len() {
+            let (call, cut) = ([OSBGET, OSCLI][at % 2], at / 2);
+            let (mut whole, mut cut_up) = (Bench::waiting(call, 0), Bench::waiting(call, 0));
+            let mut answers = whole.steps(&stream);
+            answers.retain(|&told| told != MORE);
             let mut found = Vec::new();
             for mut piece in [&stream[..cut], &stream[cut..]] {
                 while !piece.is_empty() {
                     let mut room = [0; 5 * 19];
                     let Bench { link, reply, own } = &mut cut_up;
                     let ran = link.run(piece, reply, own, &mut room);
-                    let notes = room.as_chunks::<NOTE>().0[..ran.noted].iter().copied();
-                    found.extend(notes.map(Some));
+                    let notes = &room.as_chunks::<NOTE>().0[..ran.noted];
+                    found.extend(notes.iter().map(|&note| Ok(note)));
                     if ran.told != MORE {
-                        found.push(None);
+                        found.push(Err(ran.told));
                     }
+                    assert_ne!(ran.used, 0);
                     piece = &piece[ran.used..];
                 }
             }
-            let expected: Vec<Option<[u8; NOTE]>> =
-                answers.iter().map(|&told| told.note()).collect();
+            let expected: Vec<Result<[u8; NOTE], Told>> =
+                answers.into_iter().map(passed_over).collect();
             assert_eq!(found, expected);
             assert_eq!(cut_up.link, whole.link);
             assert!(cut_up.reply == whole.reply && cut_up.own == whole.own);
@@ -1217,6 +1219,14 @@ mod tests {
             assert!(out[size..].iter().all(|&byte| byte == 0xDD));
             let read = read_back(&written, &out[..size], &plain);
             assert_eq!(read.reply, reply);
+            let numbers = match reply {
+                CARRY_A | BLOCK_CARRY_A => (true, 0, 0, 0x9B),
+                ACK => (true, 0, 0, 0),
+                NUMBER | A_BLOCK => (false, 0, 0, 0x9B),
+                CARRY_Y_X => (true, 7, 8, 0),
+                _ => (false, 0, 0, 0),
+            };
+            assert_eq!((read.carry, read.x, read.y, read.a), numbers);
             assert_eq!(plain[read.block], *block);
             assert_eq!(plain[read.text], *text);
 
@@ -1287,12 +1297,24 @@ mod tests {
     fn blocks_and_lines_that_do_not_fit() {
         let write = |reply: Reply| reply.write(&mut [0; 600]);
         let line = blank(OSWORD_0, LINE);
-        let text = &[0x0D];
-        assert_eq!(write(Reply { text, ..line }), Err(9));
+        for text in [&[0x0D, 0x41], &[0x41, 0x0D]] {
+            assert_eq!(write(Reply { text, ..line }), Err(9));
+        }
         let text = &[0x41];
         assert_eq!(write(Reply { text, ..line }), Ok(3));
         let escaped = blank(OSWORD_0, ESCAPED);
         assert_eq!(write(Reply { text, ..escaped }), Err(9));
+        let osargs = blank(OSARGS, A_BLOCK);
+        for (length, answer) in [
+            (0, Err(9)),
+            (3, Err(9)),
+            (4, Ok(5)),
+            (5, Err(9)),
+            (260, Err(9)),
+        ] {
+            let block = &[0; 260][..length];
+            assert_eq!(write(Reply { block, ..osargs }), answer);
+        }
         let block = &[0x41];
         assert_eq!(write(Reply { block, ..line }), Err(9));
         let ack = blank(OSCLI, ACK);
@@ -1337,9 +1359,10 @@ mod tests {
             0x00, 0x02, 0x04, 0x06, 0x08, 0x0A, 0x0C, 0x0E, 0x10, 0x12, 0x12, 0x14, 0x16,
         ];
         for (call, code) in codes.into_iter().enumerate() {
-            let body = match call as u8 {
-                OSFIND_CLOSE => [0, 8, 9],
-                _ => [7, 8, 9],
+            let mut body = [9; 260];
+            body[0] = match call as u8 {
+                OSFIND_CLOSE => 0,
+                _ => 7,
             };
             let out_length = if call as u8 == OSWORD { 9 } else { 0 };
             assert_eq!(kind_of(code, &body), (call as u8, out_length));
