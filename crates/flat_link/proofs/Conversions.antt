@@ -2,10 +2,10 @@
 use Prim.Native.Nat.{ℕ, zero, suc, _-_, _≤_, _<_}
 use native.Mathlib.Omega.{arith}
 use mathlib.Core.Path.{_≡_, refl, ap, _∙_}
-use mathlib.Core.Bool.{Bool, true, false, not}
+use mathlib.Core.Bool.{true}
 use mathlib.Core.List.{List}
-use borrow.Author.Tests.{leb-true, le-leb, ne-eqb}
-use lib.Dec.{eqb, leb}
+use borrow.Author.Tests.{leb-true, le-leb}
+use lib.Dec.{leb}
 use Rattle.serial_rules.specs.Reply.{kindIn}
 use Rattle.serial_rules.proofs.Trip.{and-both}
 use Rattle.kind.specs.Kinds.{kindFor}
@@ -18,12 +18,10 @@ use Rattle.link.specs.declared.Doing.{Doing}
 use Rattle.link.specs.declared.Doing.the-variants.{Quiet, Open}
 use Rattle.link.specs.declared.Link.{Link}
 use Rattle.link.specs.View.{viewOf}
+use Rattle.flat.proofs.Flags.{not-zero, flag-back, flag-same}
 use Rattle.flat_link.specs.declared.FlatLink.{FlatLink}
 use Rattle.flat_link.specs.Kinds.{kindAt, kindNumber, kindOut, Flat-kind-done}
-use Rattle.flat_link.specs.Links.{waitAt, doingAt, linkOf, tagsOk, flatView, waitNumber, waitOut, doingNumber, flagNumber, flatOf}
-
-not-zero : (n : ℕ) → eqb (suc n) 0 ≡ false
-not-zero n = ne-eqb (suc n) 0 (λ h. omega (arith, h))
+use Rattle.flat_link.specs.Links.{waitAt, doingAt, linkOf, tagsOk, flatView, waitNumber, waitOut, doingNumber, flatOf}
 
 before-suc : (n : ℕ) → suc n - 1 ≡ n
 before-suc n = omega arith
@@ -64,11 +62,6 @@ doing-back Quiet = refl
 doing-back (Open Error) = refl
 doing-back (Open Event) = refl
 doing-back (Open Address) = refl
-
-flag-back : (given : ℕ) (set : Bool) → not (eqb (flagNumber given set) 0) ≡ set
-flag-back given false = refl
-flag-back zero true = refl
-flag-back (suc n) true = simp (not-zero n)
 
 link-back : (f : FlatLink) (l : Link) → linkOf (flatOf f l) ≡ l
 link-back f l =
@@ -122,10 +115,6 @@ wait-same out (suc n) h =
 doing-same : (n : ℕ) → leb n 3 ≡ true → doingNumber (doingAt n) ≡ n
 unfolding Each
 doing-same n h = each (λ (n : ℕ). doingNumber (doingAt n) ≡ n) 4 (refl, (refl, (refl, (refl, tt)))) n (omega (arith, leb-true n 3 h))
-
-flag-same : (n : ℕ) → flagNumber n (not (eqb n 0)) ≡ n
-flag-same zero = refl
-flag-same (suc n) = simp (not-zero n)
 
 pub flat-back : (f : FlatLink) → tagsOk f ≡ true → flatOf f (linkOf f) ≡ f
 unfolding tagsOk

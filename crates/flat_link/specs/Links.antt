@@ -16,6 +16,7 @@ use Rattle.link.specs.declared.Link.{Link}
 use Rattle.link.specs.declared.Answer.{Answer}
 use Rattle.link.specs.declared.Answer.the-variants as variant
 use Rattle.link.specs.View.{viewOf, replyAfter, ownAfter, waitingFrom}
+use Rattle.flat.specs.Flat.{flagNumber}
 use Rattle.flat_link.specs.declared.FlatLink.{FlatLink}
 use Rattle.flat_link.specs.declared.FlatTold.{FlatTold}
 use Rattle.flat_link.specs.declared.FlatBegun.{FlatBegun}
@@ -62,9 +63,6 @@ doingNumber Quiet = 0
 doingNumber (Open Error) = 1
 doingNumber (Open Event) = 2
 doingNumber (Open Address) = 3
-
-abbrev pub flagNumber : ℕ → Bool → ℕ
-flagNumber given set = cond set (cond (eqb given 0) 1 given) 0
 
 abbrev pub flatOf : FlatLink → Link → FlatLink
 flatOf f l =

@@ -8,18 +8,16 @@ use lib.ListN.{length, drop}
 use Rattle.serial_rules.specs.Call.{stringLimit}
 use Rattle.serial_rules.specs.Escape.{escaped}
 use Rattle.serial_rules.specs.Reply as rules
-use Rattle.fields.specs.Promise.{number, count}
-use Rattle.fields.specs.declared.Written.{Written}
 use Rattle.kind.specs.Kinds.{kindFor}
 use Rattle.kind.specs.declared.CallKind.{CallKind}
 use Rattle.reply.specs.declared.Reply.{Reply}
 use Rattle.reply.specs.declared.Reply.the-variants.{CarryA, Ack, Byte, CarryYX, Block, EscapedLine, ReadLine, ABlock, Plain, BlockCarryA}
 use Rattle.reply.specs.declared.Given.{Given}
 use Rattle.reply.specs.Promise.{replyFor, Read-done}
+use Rattle.flat.specs.declared.FlatWritten.{FlatWritten}
+use Rattle.flat.specs.Flat.{flagNumber}
 use Rattle.flat_link.specs.declared.FlatGiven.{FlatGiven}
-use Rattle.flat_link.specs.declared.FlatWritten.{FlatWritten}
 use Rattle.flat_link.specs.Kinds.{lastCall}
-use Rattle.flat_link.specs.Links.{flagNumber}
 
 -- the replies in the order of the program's, from 0, with the numbers that each has; a carry is set where its number is not 0
 abbrev pub replyAt : ℕ → ℕ → ℕ → ℕ → ℕ → Reply
@@ -37,9 +35,6 @@ replyAt n carry x y a =
 
 unfoldable pub replyKnown : ℕ → ℕ → Bool
 replyKnown call reply = leb call lastCall && leb reply 9
-
-abbrev pub flatWritten : Written → FlatWritten
-flatWritten r = record { length = count r; answer = number r }
 
 -- the number of the answer: a call or a reply out of range is a field that breaks its rule
 abbrev pub flatNumber : ℕ → CallKind → ℕ → Reply → List ℕ → List ℕ → ℕ → ℕ

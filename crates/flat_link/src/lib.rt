@@ -4,10 +4,11 @@ ghost use Prim.Native.Nat.{_≤_};
 ghost use mathlib.Core.Path.{_≡_};
 ghost use Rattle.link.specs.View.{begunOf};
 ghost use Rattle.flat_link.specs.Kinds.{kindAt, kindNumber, kindOut, Flat-kind-done};
-ghost use Rattle.flat_link.specs.Links.{waitAt, doingAt, linkOf, tagsOk, freshLink, waitNumber, waitOut, doingNumber, flagNumber, flatOf, toldWith, flatTold, flatBegun, Flat-step-done, Flat-begin-done};
+ghost use Rattle.flat_link.specs.Links.{waitAt, doingAt, linkOf, tagsOk, freshLink, waitNumber, waitOut, doingNumber, flatOf, toldWith, flatTold, flatBegun, Flat-step-done, Flat-begin-done};
 ghost use Rattle.flat_link.specs.Runs.{flatRan, flatUnknown, ranWith, Flat-run-done};
-ghost use Rattle.flat_link.specs.Replies.{replyAt, replyKnown, flatWritten, flatGiven, givenWith, Flat-reply-done, Flat-read-done};
+ghost use Rattle.flat_link.specs.Replies.{replyAt, replyKnown, flatGiven, givenWith, Flat-reply-done, Flat-read-done};
 use fields::Written;
+use flat::FlatWritten;
 use kind::CallKind;
 use link::Action;
 use link::Answer;
@@ -85,13 +86,6 @@ pub struct FlatGiven {
 pub struct FlatKind {
     pub call: u8,
     pub out_length: u8,
-}
-
-// What a writer gives: the number of its answer, and on 0 the length of the encoding.
-#[repr(C)]
-pub struct FlatWritten {
-    pub length: usize,
-    pub answer: u8,
 }
 
 impl FlatKind {
@@ -214,7 +208,7 @@ fn flat_told(link: FlatLink, answer: Answer) -> FlatTold
         Answer::More => told(link, 0, 0, 0),
         Answer::Character(b) => told(link, 1, b, 0),
         Answer::Reply(n) => told(link, 5, 0, n),
-        Answer::EscapeState(on) => told(link, 2, flag_number(0, on), 0),
+        Answer::EscapeState(on) => told(link, 2, flat::flag_number(0, on), 0),
         Answer::Event { y, x, a } => FlatTold {
             link: link,
             length: 0,
@@ -335,9 +329,9 @@ fn flattened(given: FlatLink, link: Link) -> FlatLink
         held: link.held,
         wait: wait_number(wait),
         out_length: wait_out(given.out_length, wait),
-        escape: flag_number(given.escape, link.escape),
+        escape: flat::flag_number(given.escape, link.escape),
         action: doing_number(doing),
-        stopped: flag_number(given.stopped, link.stopped),
+        stopped: flat::flag_number(given.stopped, link.stopped),
     }
 }
 
@@ -369,17 +363,6 @@ fn doing_number(doing: Doing) -> u8
             Action::Event => 2,
             Action::Address => 3,
         },
-    }
-}
-
-// A flag that is set keeps the number given where that one says so.
-fn flag_number(given: u8, set: bool) -> u8
-    ensures { λ r. ⌜ r ≡ flagNumber given set ⌝ }
-{
-    if set {
-        if given == 0 { 1 } else { given }
-    } else {
-        0
     }
 }
 
@@ -475,12 +458,12 @@ pub fn write_reply(
     if reply_known(call, reply) {
         let given = reply_at(reply, carry, x, y, a);
         let kind = kind_at(call, out_length);
-        return flat_written(reply::write_reply(kind, given, block, text, out));
+        return flat::flat_written(reply::write_reply(kind, given, block, text, out));
     }
     if Text::LIMIT < text.len() {
-        return flat_written(Written::TooLong);
+        return flat::flat_written(Written::TooLong);
     }
-    flat_written(Written::BadField)
+    flat::flat_written(Written::BadField)
 }
 
 // Whether the numbers of the call and of the reply are in range.
@@ -513,30 +496,6 @@ fn reply_at(n: u8, carry: u8, x: u8, y: u8, a: u8) -> Reply
         7 => Reply::ABlock(a),
         8 => Reply::Plain,
         _ => Reply::BlockCarryA { carry: set, a: a },
-    }
-}
-
-// The flat result of a writer.
-pub fn flat_written(written: Written) -> FlatWritten
-    ensures { λ r. ⌜ r ≡ flatWritten written ⌝ }
-{
-    match written {
-        Written::Done(n) => FlatWritten {
-            length: n,
-            answer: 0,
-        },
-        Written::TooLong => FlatWritten {
-            length: 0,
-            answer: 6,
-        },
-        Written::BadField => FlatWritten {
-            length: 0,
-            answer: 9,
-        },
-        Written::NoRoom => FlatWritten {
-            length: 0,
-            answer: 8,
-        },
     }
 }
 
@@ -589,7 +548,7 @@ fn numbered(given: Given, reply: u8, carry: bool, x: u8, y: u8, a: u8) -> FlatGi
         text_start: given.text_start,
         text_length: given.text_length,
         reply: reply,
-        carry: flag_number(0, carry),
+        carry: flat::flag_number(0, carry),
         x: x,
         y: y,
         a: a,

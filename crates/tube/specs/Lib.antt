@@ -1,3 +1,1 @@
-pub mod Flat
-pub mod FlatFeed
-pub mod FlatCall
+pub mod Entry

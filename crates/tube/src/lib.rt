@@ -1,32 +1,98 @@
-// The library's other exports: the player, the text, and the requests as flat records. The chip's own are in `board`, which is linked with it.
+// The library for callers in C and Rust: the chip, lent to one access entry, the player and its text, the requests, the link and the
+// replies. Answers are numbers and records flat.
 ghost use mathlib.Core.Path.{_≡_};
-ghost use Rattle.tube.specs.Flat.{carrierAt, phaseAt, carrierNumber, phaseNumber, readerOf, escapeNumber, flatOf, flatRead, flatPlain, tagsOk, flatFresh, Flat-done};
-ghost use Rattle.tube.specs.FlatFeed.{Flat-feed-done};
-ghost use Rattle.tube.specs.FlatCall.{callAt, callKnown, Flat-request-done};
-ghost use Rattle.request_reader.specs.View.{carrierOf};
-ghost use Rattle.request_writer.specs.Promise.{Request-done};
+ghost use Rattle.chip_rules.specs.History.{lineValue};
+ghost use Rattle.chip.specs.Record.{view, blank};
+ghost use Rattle.chip.specs.Promise.{accessOf, Access-done, Reset-done};
 ghost use Rattle.script.specs.Script.{Play-done};
 ghost use Rattle.script_text.specs.Text.{Text-done};
+ghost use Rattle.flat_request.specs.Readers.{freshReader, Flat-done};
+ghost use Rattle.flat_request.specs.Feeds.{Flat-feed-done};
+ghost use Rattle.flat_request.specs.Calls.{callAt, Flat-request-done};
 ghost use Rattle.flat_link.specs.Kinds.{kindAt, Flat-kind-done};
 ghost use Rattle.flat_link.specs.Links.{freshLink, Flat-step-done, Flat-begin-done};
 ghost use Rattle.flat_link.specs.Runs.{Flat-run-done};
 ghost use Rattle.flat_link.specs.Replies.{replyAt, Flat-reply-done, Flat-read-done};
+ghost use Rattle.tube.specs.Entry.{writes, replied};
 use chip::Chip;
-use fields::Written;
+use flat::FlatWritten;
 use flat_link::FlatBegun;
 use flat_link::FlatGiven;
 use flat_link::FlatKind;
 use flat_link::FlatLink;
 use flat_link::FlatRan;
 use flat_link::FlatTold;
-use flat_link::FlatWritten;
-use request_reader::Answer;
-use request_reader::Carrier;
-use request_reader::Phase;
-use request_reader::Reader;
-use request_writer::Call;
+use flat_request::FlatFed;
+use flat_request::FlatRead;
+use flat_request::FlatReader;
 use script::Played;
-use strings::Text;
+
+// Document 01's number of the answer, and the byte.
+#[repr(C)]
+pub struct Reply {
+    pub answer: u8,
+    pub byte: u8,
+}
+
+// The chip stands last.
+pub struct Stepped {
+    pub reply: Reply,
+    pub chip: Chip,
+}
+
+// One access by value, its answer by number. Operation 0 reads, any other number writes.
+pub fn step(chip: Chip, side: u8, offset: u8, operation: u8, byte: u8) -> Stepped
+    ensures { λ r. ⌜ Access-done chip (accessOf side offset (writes operation) byte) (replied (r .reply)) (r .chip) ⌝ }
+{
+    let a = chip.access(side, offset, operation != 0, byte);
+    let answer = a.answer;
+    let reply = Reply {
+        answer: answer.number(),
+        byte: a.byte,
+    };
+    let next = a.chip;
+    Stepped {
+        reply: reply,
+        chip: next,
+    }
+}
+
+// The thin entry: the chip is lent, stepped by value and stored.
+#[no_mangle]
+pub extern "C" fn tube_access(
+    chip: &mut Chip,
+    side: u8,
+    offset: u8,
+    operation: u8,
+    byte: u8,
+) -> Reply
+    ensures { λ r. ⌜ Access-done (now (chip .entry)) (accessOf side offset (writes operation) byte) (replied r) (now (chip .exit)) ⌝ }
+{
+    let a = step(*chip, side, offset, operation, byte);
+    *chip = a.chip;
+    a.reply
+}
+
+#[no_mangle]
+pub extern "C" fn tube_new() -> Chip
+    ensures { λ r. ⌜ r ≡ blank ⌝ }
+{
+    Chip::new()
+}
+
+#[no_mangle]
+pub extern "C" fn tube_reset(chip: Chip) -> Chip
+    ensures { λ r. ⌜ Reset-done chip r ⌝ }
+{
+    chip.reset()
+}
+
+#[no_mangle]
+pub extern "C" fn tube_lines(chip: Chip) -> u8
+    ensures { λ r. ⌜ r ≡ lineValue (view chip) ⌝ }
+{
+    chip.lines()
+}
 
 // Plays a script: see `script::play`.
 #[no_mangle]
@@ -44,222 +110,31 @@ pub extern "C" fn tube_text(results: &[u8], played: usize, answer: u8, out: &mut
     script_text::write_text(results, played, answer, out)
 }
 
-// A request reader with numbers for its enums: carrier 0 serial, 1 parallel; phase 0 outside a request, 1 inside, 2 stopped; an
-// escape was seen where its number is not 0. A number out of range makes a reader that counts as stopped.
-#[repr(C)]
-pub struct FlatReader {
-    pub count: usize,
-    pub carrier: u8,
-    pub phase: u8,
-    pub escape: u8,
-    pub style: u8,
-    pub code: u8,
-}
-
-// What a raw byte gives: kind 0 needs more, 1 is a character (value), 2 a request (style, code, its body in the first `length` bytes of
-// the lent body), 3 a refusal (value is its number).
-#[repr(C)]
-pub struct FlatRead {
-    pub reader: FlatReader,
-    pub length: usize,
-    pub kind: u8,
-    pub value: u8,
-    pub style: u8,
-    pub code: u8,
-}
-
-// What a slice of raw bytes gives: its first answer that is not need-more, or need-more where it ends first, and the bytes used.
-#[repr(C)]
-pub struct FlatFed {
-    pub read: FlatRead,
-    pub used: usize,
-}
-
-// A fresh reader; it is also what resets a stopped one.
+// A fresh request reader: see `flat_request::fresh`.
 #[no_mangle]
 pub extern "C" fn tube_reader(carrier: u8) -> FlatReader
-    ensures { λ r. ⌜ r ≡ flatFresh carrier ⌝ }
+    ensures { λ r. ⌜ r ≡ freshReader carrier ⌝ }
 {
-    FlatReader {
-        count: 0,
-        carrier: carrier,
-        phase: 0,
-        escape: 0,
-        style: 0,
-        code: 0,
-    }
+    flat_request::fresh(carrier)
 }
 
-// One raw byte, as a slice: so `Reader::feed` stays the one caller of `Reader::step`, which is what makes it fast (docs/DECISIONS.md, 'Speed').
+// One raw byte: see `flat_request::read`.
 #[no_mangle]
 pub extern "C" fn tube_read(reader: FlatReader, raw: u8, body: &mut [u8; 273]) -> FlatRead
     ensures { λ r. ⌜ Flat-done reader (now (body .entry)) raw r (now (body .exit)) ⌝ }
 {
-    if has_tags(reader) {
-        let one = [raw];
-        let fed = unflattened(reader).feed(&one, body);
-        let answer = fed.answer;
-        let next = fed.reader;
-        return flat_read(flattened(reader.escape, next), answer);
-    }
-    flat_read(reader, Answer::Refused(7))
+    flat_request::read(reader, raw, body)
 }
 
-// Raw bytes up to the first answer that is not need-more: see `request_reader::Reader::feed`.
+// Raw bytes up to the first answer that is not need-more: see `flat_request::feed`.
 #[no_mangle]
 pub extern "C" fn tube_feed(reader: FlatReader, raw: &[u8], body: &mut [u8; 273]) -> FlatFed
     ensures { λ r. ⌜ Flat-feed-done reader (now (body .entry)) (now (raw .entry)) r (now (body .exit)) ⌝ }
 {
-    if has_tags(reader) {
-        let fed = unflattened(reader).feed(raw, body);
-        let answer = fed.answer;
-        let next = fed.reader;
-        return FlatFed {
-            read: flat_read(flattened(reader.escape, next), answer),
-            used: fed.used,
-        };
-    }
-    if raw.len() == 0 {
-        return FlatFed {
-            read: flat_read(reader, Answer::More),
-            used: 0,
-        };
-    }
-    FlatFed {
-        read: flat_read(reader, Answer::Refused(7)),
-        used: 1,
-    }
+    flat_request::feed(reader, raw, body)
 }
 
-// The flat result of an answer.
-fn flat_read(reader: FlatReader, answer: Answer) -> FlatRead
-    ensures { λ r. ⌜ r ≡ flatRead reader answer ⌝ }
-{
-    match answer {
-        Answer::More => flat(reader, 0, 0),
-        Answer::Character(b) => flat(reader, 1, b),
-        Answer::Refused(n) => flat(reader, 3, n),
-        Answer::Request {
-            style,
-            code,
-            length,
-        } => FlatRead {
-            reader: reader,
-            length: length,
-            kind: 2,
-            value: 0,
-            style: style,
-            code: code,
-        },
-    }
-}
-
-fn flat(reader: FlatReader, kind: u8, value: u8) -> FlatRead
-    ensures { λ r. ⌜ r ≡ flatPlain reader kind value ⌝ }
-{
-    FlatRead {
-        reader: reader,
-        length: 0,
-        kind: kind,
-        value: value,
-        style: 0,
-        code: 0,
-    }
-}
-
-// Whether the numbers of the carrier and of the phase are in range.
-fn has_tags(reader: FlatReader) -> bool
-    ensures { λ r. ⌜ r ≡ tagsOk reader ⌝ }
-{
-    if reader.carrier <= 1 {
-        return reader.phase <= 2;
-    }
-    false
-}
-
-// The reader of a flat record, and its parts by number.
-fn unflattened(reader: FlatReader) -> Reader
-    ensures { λ r. ⌜ r ≡ readerOf reader ⌝ }
-{
-    Reader {
-        carrier: carrier_at(reader.carrier),
-        phase: phase_at(reader.phase),
-        escape: reader.escape != 0,
-        style: reader.style,
-        code: reader.code,
-        count: reader.count,
-    }
-}
-
-fn carrier_at(n: u8) -> Carrier
-    ensures { λ r. ⌜ r ≡ carrierAt n ⌝ }
-{
-    if n == 0 {
-        Carrier::Serial
-    } else {
-        Carrier::Parallel
-    }
-}
-
-fn phase_at(n: u8) -> Phase
-    ensures { λ r. ⌜ r ≡ phaseAt n ⌝ }
-{
-    if n == 0 {
-        return Phase::Outside;
-    }
-    if n == 1 {
-        return Phase::Inside;
-    }
-    Phase::Stopped
-}
-
-// The flat record of a reader; `given` is the number of the escape that the caller's record had.
-fn flattened(given: u8, reader: Reader) -> FlatReader
-    ensures { λ r. ⌜ r ≡ flatOf given reader ⌝ }
-{
-    let carrier = reader.carrier;
-    let phase = reader.phase;
-    FlatReader {
-        count: reader.count,
-        carrier: carrier_number(carrier),
-        phase: phase_number(phase),
-        escape: escape_number(given, reader.escape),
-        style: reader.style,
-        code: reader.code,
-    }
-}
-
-fn carrier_number(carrier: Carrier) -> u8
-    ensures { λ r. ⌜ r ≡ carrierNumber carrier ⌝ }
-{
-    match carrier {
-        Carrier::Serial => 0,
-        Carrier::Parallel => 1,
-    }
-}
-
-fn phase_number(phase: Phase) -> u8
-    ensures { λ r. ⌜ r ≡ phaseNumber phase ⌝ }
-{
-    match phase {
-        Phase::Outside => 0,
-        Phase::Inside => 1,
-        Phase::Stopped => 2,
-    }
-}
-
-fn escape_number(given: u8, seen: bool) -> u8
-    ensures { λ r. ⌜ r ≡ escapeNumber given seen ⌝ }
-{
-    if seen {
-        if given == 0 { 1 } else { given }
-    } else {
-        0
-    }
-}
-
-// Writes a request: see `request_writer::write_serial` (carrier 0) and `write_parallel` (1). The calls are numbered in the order of
-// `request_writer::Call`, from 0; another carrier or call is a field that breaks its rule. A number that the call does not have is not read.
+// Writes a request: see `flat_request::write_request`.
 #[no_mangle]
 pub extern "C" fn tube_write_request(
     carrier: u8,
@@ -275,90 +150,10 @@ pub extern "C" fn tube_write_request(
 ) -> FlatWritten
     ensures { λ r. ⌜ Flat-request-done carrier style call (callAt call x y a «out_length») (now (block .entry)) (now (text .entry)) (now (out .entry)) r (now (out .exit)) ⌝ }
 {
-    if call_known(carrier, call) {
-        let given = call_at(call, x, y, a, out_length);
-        return flat_link::flat_written(write_on(carrier, style, given, block, text, out));
-    }
-    if Text::LIMIT < text.len() {
-        return flat_link::flat_written(Written::TooLong);
-    }
-    flat_link::flat_written(Written::BadField)
+    flat_request::write_request(carrier, style, call, x, y, a, out_length, block, text, out)
 }
 
-// Whether the numbers of the carrier and of the call are in range.
-fn call_known(carrier: u8, call: u8) -> bool
-    ensures { λ r. ⌜ r ≡ callKnown carrier call ⌝ }
-{
-    if carrier <= 1 {
-        return call <= 12;
-    }
-    false
-}
-
-// Writes on the carrier of that number.
-fn write_on(
-    carrier: u8,
-    style: u8,
-    call: Call,
-    block: &[u8],
-    text: &[u8],
-    out: &mut [u8],
-) -> Written
-    ensures { λ r. ⌜ Request-done (carrierOf (carrierAt carrier)) style call (now (block .entry)) (now (text .entry)) (now (out .entry)) r (now (out .exit)) ⌝ }
-{
-    if carrier == 0 {
-        return request_writer::write_serial(style, call, block, text, out);
-    }
-    request_writer::write_parallel(style, call, block, text, out)
-}
-
-// The call of a number, with the numbers that it has.
-fn call_at(number: u8, x: u8, y: u8, a: u8, out_length: u8) -> Call
-    ensures { λ r. ⌜ r ≡ callAt number x y a «out_length» ⌝ }
-{
-    if number == 0 {
-        return Call::Osrdch;
-    }
-    if number == 1 {
-        return Call::Oscli;
-    }
-    if number == 2 {
-        return Call::OsbyteLow { x: x, a: a };
-    }
-    if number == 3 {
-        return Call::OsbyteHigh { x: x, y: y, a: a };
-    }
-    if number == 4 {
-        return Call::Osword {
-            a: a,
-            out_length: out_length,
-        };
-    }
-    if number == 5 {
-        return Call::Osword0;
-    }
-    if number == 6 {
-        return Call::Osargs { y: y, a: a };
-    }
-    if number == 7 {
-        return Call::Osbget { y: y };
-    }
-    if number == 8 {
-        return Call::Osbput { y: y, a: a };
-    }
-    if number == 9 {
-        return Call::OsfindClose { y: y };
-    }
-    if number == 10 {
-        return Call::OsfindOpen { a: a };
-    }
-    if number == 11 {
-        return Call::Osfile { a: a };
-    }
-    Call::Osgbpb { a: a }
-}
-
-// The link and the replies are those of `flat_link`. A fresh link: see `flat_link::fresh`.
+// A fresh link: see `flat_link::fresh`.
 #[no_mangle]
 pub extern "C" fn tube_link() -> FlatLink
     ensures { λ r. ⌜ r ≡ freshLink ⌝ }

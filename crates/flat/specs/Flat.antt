@@ -1,0 +1,15 @@
+-- What the flat records for callers in C share.
+use Prim.Native.Nat.{ℕ}
+use mathlib.Core.Bool.{Bool, cond}
+use lib.Dec.{eqb}
+use Rattle.fields.specs.Promise.{number, count}
+use Rattle.fields.specs.declared.Written.{Written}
+use Rattle.flat.specs.declared.FlatWritten.{FlatWritten}
+
+-- A flag is set where its number is not 0. The number given stays where it stands for the same, so that a record unchanged is the record given.
+abbrev pub flagNumber : ℕ → Bool → ℕ
+flagNumber given set = cond set (cond (eqb given 0) 1 given) 0
+
+-- the number of a writer's answer, and the length of the encoding
+abbrev pub flatWritten : Written → FlatWritten
+flatWritten r = record { length = count r; answer = number r }

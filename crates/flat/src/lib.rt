@@ -1,0 +1,46 @@
+// What the flat records for callers in C share: a flag kept as a number, and what a writer gives.
+ghost use mathlib.Core.Path.{_≡_};
+ghost use Rattle.flat.specs.Flat.{flagNumber, flatWritten};
+use fields::Written;
+
+// What a writer gives: the number of its answer, and on 0 the length of the encoding.
+#[repr(C)]
+pub struct FlatWritten {
+    pub length: usize,
+    pub answer: u8,
+}
+
+// The flat result of a writer.
+pub fn flat_written(written: Written) -> FlatWritten
+    ensures { λ r. ⌜ r ≡ flatWritten written ⌝ }
+{
+    match written {
+        Written::Done(n) => FlatWritten {
+            length: n,
+            answer: 0,
+        },
+        Written::TooLong => FlatWritten {
+            length: 0,
+            answer: 6,
+        },
+        Written::BadField => FlatWritten {
+            length: 0,
+            answer: 9,
+        },
+        Written::NoRoom => FlatWritten {
+            length: 0,
+            answer: 8,
+        },
+    }
+}
+
+// A flag that is set keeps the number given where that one says so.
+pub fn flag_number(given: u8, set: bool) -> u8
+    ensures { λ r. ⌜ r ≡ flagNumber given set ⌝ }
+{
+    if set {
+        if given == 0 { 1 } else { given }
+    } else {
+        0
+    }
+}

@@ -1,0 +1,51 @@
+-- With the tags in range this is a slice of one byte, which is a step of the reader; with one out of range the refusal of a stopped reader.
+use mathlib.Core.Path.{sym, _∙_}
+use Rattle.flat_request.proofs.Readers.{read-byte, out-of-range}
+use borrow.Author.Needs.{needs}
+use Rattle.flat_request.proofs.read.Statement.{statement}
+use Rattle.flat_request.proofs.read.Tie as tie
+
+has-tags-requires : tie.Need-has-tags-requires
+has-tags-requires c κs = search needs
+
+unflattened-requires : tie.Need-unflattened-requires
+unflattened-requires c κs = search needs
+
+slice-aggregate-feed : tie.Need-slice-aggregate-feed
+slice-aggregate-feed c = search needs
+
+feed-requires : tie.Need-feed-requires
+feed-requires c κs = search needs
+
+flattened-requires : tie.Need-flattened-requires
+flattened-requires c κs = search needs
+
+flat-read-requires : tie.Need-flat-read-requires
+flat-read-requires c κs = search needs
+
+returns : tie.Need-returns
+returns c =
+    let q = c .before .before .before in
+    let s = q .before .before .before in
+    read-byte (sym (s .before .before .has-tags .ensures) ∙ s .before .if1 .taken) (s .unflattened .ensures) (c .before .flattened .ensures) (c .flat-read .ensures)
+    (q .feed .ensures)
+
+flat-read-requires-2 : tie.Need-flat-read-requires-2
+flat-read-requires-2 c κs = search needs
+
+returns-2 : tie.Need-returns-2
+returns-2 c = out-of-range (sym (c .before .before .has-tags .ensures) ∙ c .before .if1 .left) (c .flat-read2 .ensures)
+
+pub read-spec : {M : Type 1} → statement M
+read-spec =
+    tie.close
+    (tie.spec
+    has-tags-requires
+    unflattened-requires
+    slice-aggregate-feed
+    feed-requires
+    flattened-requires
+    flat-read-requires
+    returns
+    flat-read-requires-2
+    returns-2)

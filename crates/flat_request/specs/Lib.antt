@@ -1,0 +1,3 @@
+pub mod Readers
+pub mod Feeds
+pub mod Calls
