@@ -1,4 +1,4 @@
-/* The Tube chip, the script player, the requests of both carriers, and the link with its replies, proved in Rattle. Link libtube.a (`rt staticlib tube`).
+/* The Tube chip, the script player, the requests of both carriers, and the link with its replies, proved in Rattle. Link target/libtube.a (`./build` makes it).
  *
  * Every function is total: any side, offset, operation, byte and any bytes in a record are answered by number. The caller's own duty
  * is what C cannot say: a pointer points to a whole record or to as many bytes as its length says, no pointer is null (an empty

@@ -2,7 +2,7 @@
 use Prim.Native.Nat.{ℕ}
 use mathlib.Core.Bool.{Bool, not}
 use lib.Dec.{eqb}
-use Rattle.tube.specs.declared.Reply as declared
+use Rattle.board.specs.declared.Reply as declared
 use Rattle.chip_rules.specs.State.{Reply}
 
 -- operation 0 reads, any other number writes

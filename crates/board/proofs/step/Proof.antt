@@ -1,7 +1,7 @@
 -- The access is the chip's own, and its answer becomes its number.
 use borrow.Author.Needs.{needs}
-use Rattle.tube.proofs.step.Statement.{statement}
-use Rattle.tube.proofs.step.Tie as tie
+use Rattle.board.proofs.step.Statement.{statement}
+use Rattle.board.proofs.step.Tie as tie
 
 access-requires : tie.Need-access-requires
 access-requires c κs = search needs

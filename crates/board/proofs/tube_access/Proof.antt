@@ -1,4 +1,4 @@
--- `tube::tube_access` meets its contract: a walk of its MIR, by hand. The chip is copied out of the borrow and passed to `step`, of which only the contract is known; the chip that it returns is stored, and the borrow is closed at it.
+-- `board::tube_access` meets its contract: a walk of its MIR, by hand. The chip is copied out of the borrow and passed to `step`, of which only the contract is known; the chip that it returns is stored, and the borrow is closed at it.
 -- No line goes into the chip's fields: its machine value is `LL.vals` throughout.
 -- Assumes nothing.
 use mathlib.Core.Path.{refl, ap}
@@ -40,24 +40,24 @@ use denote.Triple.Walked.{says, Stays, stay-ref, stay-none, walkOf, AllGo, goes-
 use denote.Triple.Clauses.{ensured, lasts}
 use denote.Exit.{yes}
 use Rattle.chip.specs.Promise.{accessOf, Access-done}
-use Rattle.tube.specs.Entry.{writes, replied}
+use Rattle.board.specs.Board.{writes, replied}
 use Rattle.chip.specs.declared.Chip.{Chip}
-use Rattle.tube.specs.declared.Stepped.{Stepped}
-use Rattle.tube.specs.declared.Reply.{Reply}
+use Rattle.board.specs.declared.Stepped.{Stepped}
+use Rattle.board.specs.declared.Reply.{Reply}
 use Rattle.chip.proofs.Chip as T
 use Rattle.chip.proofs.Chip.Laws as T′
-use Rattle.tube.proofs.Stepped as S
-use Rattle.tube.proofs.Stepped.Laws as S′
-use Rattle.tube.proofs.Reply as R
-use Rattle.tube.proofs.Reply.Laws as R′
-use Rattle.tube.proofs.step as g
-use Rattle.tube.proofs.step.Symbol as g-def
-use Rattle.tube.proofs.step.Symbol.{name as #g}
-use Rattle.tube.proofs.step.Met as g-thm
-use Rattle.tube.proofs.tube_access.Key.{name as #f}
-use Rattle.tube.proofs.tube_access as f
-use Rattle.tube.proofs.tube_access.Statement as stated
-use Rattle.tube.proofs.tube_access.Code as code
+use Rattle.board.proofs.Stepped as S
+use Rattle.board.proofs.Stepped.Laws as S′
+use Rattle.board.proofs.Reply as R
+use Rattle.board.proofs.Reply.Laws as R′
+use Rattle.board.proofs.step as g
+use Rattle.board.proofs.step.Symbol as g-def
+use Rattle.board.proofs.step.Symbol.{name as #g}
+use Rattle.board.proofs.step.Met as g-thm
+use Rattle.board.proofs.tube_access.Key.{name as #f}
+use Rattle.board.proofs.tube_access as f
+use Rattle.board.proofs.tube_access.Statement as stated
+use Rattle.board.proofs.tube_access.Code as code
 
 -- the values passed: the reference, then each number
 abbrev Arg : Type 0
@@ -178,4 +178,4 @@ tube-access-spec 𝓤 H 𝓜 𝓖 𝓡 =
     entered 𝓤 H (tripleOf 𝓤 H (𝓖 .A) f.signature (f.spec 𝓤 H (𝓖 .A) (𝓜 .mem) (𝓡 .run)))
     (tables 𝓤 H 𝓜 𝓡 code.env .C) (tables 𝓤 H 𝓜 𝓡 code.env .Λ) #f code.function (code.unfolded 𝓤 H 𝓜 𝓡)
     (f-meets 𝓤 H (𝓖 .A) (givenOf 𝓤 H 𝓜 𝓖) (𝓜 .mem) (𝓡 .run) (tablesOf 𝓤 H 𝓜 (tables 𝓤 H 𝓜 𝓡 code.env))
-    (cited 𝓤 H (Callee 𝓤 H (𝓖 .A) (𝓜 .mem) (𝓡 .run)) 𝓜 𝓡 code.env #g g-def.routine code.calls-tube·step (g-thm.met 𝓤 H 𝓜 𝓖 𝓡)))
+    (cited 𝓤 H (Callee 𝓤 H (𝓖 .A) (𝓜 .mem) (𝓡 .run)) 𝓜 𝓡 code.env #g g-def.routine code.calls-board·step (g-thm.met 𝓤 H 𝓜 𝓖 𝓡)))
