@@ -1,11 +1,11 @@
 -- Writes one after the other are one write; the raw bytes of one data byte and of one more; what `write_data` promises.
-use Prim.Native.Nat.{ℕ, _+_, _-_, _≤_, _<_}
+use Prim.Native.Nat.{ℕ, suc, _+_, _-_, _≤_, _<_}
 use native.Mathlib.Numerals.{add-one}
 use native.Mathlib.Omega.{arith}
 use mathlib.Core.Path.{_≡_, refl, sym, ap, _∙_}
 use mathlib.Core.List.{List, [], _∷_, _++_, append-assoc, append-nil}
 use lib.ListN.{length, take, drop, getD, set, length-append, length-drop, length-take, drop-of-length-le, take-append-drop}
-use lib.Seq.{take-at, drop-at, drop-drop, take-suc, take-all}
+use lib.Seq.{take-at, drop-at, drop-drop, drop-cons, set-at, take-suc, take-all}
 use borrow.Author.Tests.{eq-eqb, ne-eqb, le-leb, lt-leb}
 use Rattle.serial_rules.specs.Escape.{escape, escaped}
 use Rattle.serial_rules.proofs.Escape.{escaped-append, escaped-one}
@@ -46,6 +46,22 @@ put-tail {p} {w} {out} {mid} {back} {at} {n} a b =
 pub tail-room : {p : List ℕ} (w : List ℕ) {out mid : List ℕ} {at : ℕ} → Put p out mid at → length p + length w ≤ length out
     → length w ≤ length (take (length mid - at) (drop at mid))
 tail-room w a h = simp (length-take, length-drop) (omega (arith, a .count, put-length a))
+
+-- one more byte, behind the first i
+pub put-next : (l : List ℕ) {out left : List ℕ} {i : ℕ} → i < length l → i < length out → Put (take i l) out left i
+    → Put (take (i + 1) l) out (set left i (getD l i 0)) (i + 1)
+put-next l {out} {left} {i} h room p =
+    let b = getD l i 0 in
+    let e : take (i + 1) l ≡ take i l ++ (b ∷ []) = rw (add-one, take-suc l i 0 h) in
+    let n : length (take i l) ≡ i = sym (p .count) in
+    let m : length (take (i + 1) l) ≡ suc i = rw (e, length-append, n) (omega arith) in
+    let first : left ≡ take i l ++ (getD out i 0 ∷ drop (suc i) out) = p .bytes ∙ rw (n, drop-cons out i 0 room) in
+    let whole : over (take (i + 1) l) out ≡ take i l ++ (b ∷ drop (suc i) out) = rw (m, e, append-assoc) in
+    record {
+      count = rw m (omega arith);
+      bytes = ap (λ (x : List ℕ). set x i b) first ∙ set-at (take i l) _ _ b i n ∙ sym whole;
+      room = omega arith;
+    }
 
 -- one or two bytes stored at the start
 pub set-one : (out : List ℕ) (a : ℕ) → 1 ≤ length out → set out 0 a ≡ over (a ∷ []) out

@@ -1,5 +1,5 @@
 // The kinds of call, and how what belongs to each reply ends.
-ghost use Prim.Native.Nat.{_-_, _≤_};
+ghost use Prim.Native.Nat.{_+_, _-_, _≤_, _<_};
 ghost use mathlib.Core.Path.{_≡_};
 ghost use mathlib.Core.Bool.{cond};
 ghost use lib.Dec.{eqb};
@@ -10,6 +10,7 @@ use strings::Text;
 use turns::Turn;
 ghost use Rattle.turns.specs.Turns.{turnOf};
 ghost use Rattle.kind.specs.Kinds.{kindFor, shapeFor};
+ghost use Rattle.kind.specs.Ahead.{aheadOf};
 
 // A call as far as its reply goes; OSWORD carries the number of bytes that come back.
 pub enum CallKind {
@@ -159,6 +160,17 @@ impl Shape {
         }
     }
 
+    // How many bytes behind the first n need more, whatever they are but an escape or a return.
+    pub fn ahead(self, n: usize) -> usize
+        ensures { λ r. ⌜ (r ≡ aheadOf (shapeFor self) n) × (n < longest (shapeFor self) → n + r ≤ 257) ⌝ }
+    {
+        match self {
+            Shape::Fixed(k) => before_last(n, k as usize),
+            Shape::Line => line_ahead(n),
+            Shape::Text => 0,
+        }
+    }
+
     // The byte b after n bytes.
     pub fn turn(self, n: usize, b: u8) -> Turn
         ensures { λ r. ⌜ turnOf r ≡ shapeTurn (shapeFor self) n b ⌝ }
@@ -169,6 +181,26 @@ impl Shape {
             Shape::Text => text_turn(n, b),
         }
     }
+}
+
+// How many of k bytes stand behind the first n and before the last.
+fn before_last(n: usize, k: usize) -> usize
+    ensures { λ r. ⌜ r ≡ k - 1 - n ⌝ }
+{
+    if n < k {
+        return k - 1 - n;
+    }
+    0
+}
+
+// The same of a line, whose first byte may end it.
+fn line_ahead(n: usize) -> usize
+    ensures { λ r. ⌜ r ≡ aheadOf line n ⌝ }
+{
+    if n == 0 {
+        return 0;
+    }
+    before_last(n, Shape::LONGEST)
 }
 
 // The byte at index n of k bytes.

@@ -1,12 +1,12 @@
 -- The loop: what it has passed over so far, one step more, and what it promises where it ends.
-use Prim.Native.Nat.{ℕ, _+_, _-_, _*_, _/_, _≤_, _<_}
+use Prim.Native.Nat.{ℕ, zero, suc, _+_, _-_, _*_, _/_, _≤_, _<_}
 use mathlib.Core.Path.{_≡_, refl, sym, ap, _∙_}
 use mathlib.Core.Bool.{true, false, not}
 use mathlib.Core.List.{List, [], _∷_, _++_, append-assoc, append-nil}
 use native.Mathlib.Omega.{arith}
 use native.Mathlib.Numerals.{add-one}
-use lib.ListN.{length, getD, take, drop, set}
-use lib.Seq.{sets-eq, take-suc}
+use lib.ListN.{length, getD, take, drop, set, replicate, length-take, length-drop}
+use lib.Seq.{sets-eq, take-suc, take-all, take-add}
 use borrow.Author.Tests.{not-true, not-false}
 use Rattle.escape.specs.Put.{Put}
 use Rattle.escape.proofs.Laws.{put-none, put-tail}
@@ -18,7 +18,7 @@ use Rattle.link.specs.declared.Stepped.{Stepped}
 use Rattle.link.specs.declared.Ran.{Ran}
 use Rattle.link.specs.View.{reportOf, Step-done}
 use Rattle.link.specs.Run.{Runs, stop, took, passes, Passed, none, next, noteOf, notes, lastOf, Ran-done, Run-done}
-use Rattle.link.specs.Parts.{endedFrom, endsOf, noteFor}
+use Rattle.link.specs.Parts.{endedFrom, endsOf, noteFor, passedFrom, Pass-done}
 
 -- five bytes stored at the start
 pub set-five : (out : List ℕ) (a b c d e : ℕ) → 5 ≤ length out
@@ -38,7 +38,7 @@ note-lent (variant.Error n k) reply own = refl
 note-lent variant.Restart reply own = refl
 note-lent (variant.Refused n) reply own = refl
 
-ends-lent : (a : Answer) (reply own : List ℕ) → not (passes (reportOf a reply own)) ≡ endsOf a
+pub ends-lent : (a : Answer) (reply own : List ℕ) → not (passes (reportOf a reply own)) ≡ endsOf a
 unfolding passes
 ends-lent variant.More reply own = refl
 ends-lent (variant.Character b) reply own = refl
@@ -101,6 +101,41 @@ pub record Passing (link : Link) (reply own raw room : List ℕ) (now : Link) (r
   pub passed : Passed reports
   pub steps : Runs link reply own raw reports now reply-now own-now
   pub put : Put (notes reports) room room-now (5 * noted)
+
+-- bytes passed over at once: a chain behind a chain, without a note
+runs-join : {l q p : Link} {reply own reply-mid own-mid reply-end own-end raw more : List ℕ} {reports others : List rules.Report}
+    → Runs l reply own raw reports q reply-mid own-mid → Runs q reply-mid own-mid more others p reply-end own-end
+    → Runs l reply own (raw ++ more) (reports ++ others) p reply-end own-end
+runs-join stop r = r
+runs-join (took e s) r = took e (runs-join s r)
+
+passed-waits : {l : List rules.Report} → Passed l → (n : ℕ) → Passed (l ++ replicate n rules.needMore)
+unfolding passes
+passed-waits (next e p) n = next e (passed-waits p n)
+passed-waits none zero = none
+passed-waits none (suc n) = next refl (passed-waits none n)
+
+notes-waits : (l : List rules.Report) (n : ℕ) → notes (l ++ replicate n rules.needMore) ≡ notes l
+unfolding notes noteOf
+notes-waits (r ∷ l) n = rw (notes-waits l n)
+notes-waits [] zero = refl
+notes-waits [] (suc n) = notes-waits [] n
+
+pub skips : {l q at : Link} {reply own room reply-now own-now room-now left : List ℕ} {noted n : ℕ} (raw : List ℕ) (j : ℕ)
+    → Passing l reply own (take j raw) room q reply-now own-now room-now noted → Pass-done q reply-now (take (length raw - j) (drop j raw)) n left → at ≡ passedFrom q n
+    → Passing l reply own (take (j + n) raw) room at left own-now room-now noted
+skips {own-now = own-now} {n = n} raw j p d e =
+    let tail : take (length raw - j) (drop j raw) ≡ drop j raw = take-all (length raw - j) (drop j raw) (simp length-drop (omega arith)) in
+    rw e (record {
+      reports = p .reports ++ replicate n rules.needMore;
+      passed = passed-waits (p .passed) n;
+      steps = rw (take-add j n raw, ← tail) (runs-join (p .steps) (d .steps own-now));
+      put = rw (notes-waits (p .reports) n) (p .put);
+    })
+
+pub skip-within : {q : Link} {reply left : List ℕ} {n : ℕ} (raw : List ℕ) (j : ℕ) → j ≤ length raw → Pass-done q reply (take (length raw - j) (drop j raw)) n left
+    → j + n ≤ length raw
+skip-within raw j h d = let w = simp (length-take, length-drop) at (d .within) in omega arith
 
 pub nothing : (l : Link) (reply own room : List ℕ) → Passing l reply own [] room l reply own room 0
 unfolding notes

@@ -44,7 +44,7 @@ unfolding usableOf
 usable-live l e =
     not-true (l .stopped) (and-both (not (l .stopped)) (ltb (l .got) (replyRoom (l .wait)) && ltb (l .held) (ownRoom (l .doing))) e .0)
 
-usable-got : (l : Link) → usableOf l ≡ true → l .got < replyRoom (l .wait)
+pub usable-got : (l : Link) → usableOf l ≡ true → l .got < replyRoom (l .wait)
 unfolding usableOf
 usable-got l e =
     let r = ltb (l .got) (replyRoom (l .wait)) in

@@ -3,19 +3,19 @@ use escape::Piece;
 use kind::CallKind;
 use kind::Shape;
 use turns::Turn;
-ghost use Prim.Native.Nat.{_*_, _<_, _≤_};
+ghost use Prim.Native.Nat.{_+_, _*_, _<_, _≤_};
 ghost use mathlib.Core.Path.{_≡_};
-ghost use mathlib.Core.Bool.{true, cond};
+ghost use mathlib.Core.Bool.{true, false, cond};
 ghost use mathlib.Core.List.{[], _∷_};
 ghost use lib.ListN.{length};
 ghost use Rattle.escape.specs.Put.{Put};
 ghost use Rattle.serial_rules.specs.Link.{ownShape};
 ghost use Rattle.kind.specs.Kinds.{shapeFor};
 ghost use Rattle.link.specs.declared.Wait.the-variants.{Waiting};
-ghost use Rattle.link.specs.declared.Doing.the-variants.{Open};
+ghost use Rattle.link.specs.declared.Doing.the-variants.{Quiet, Open};
 ghost use Rattle.link.specs.View.{actionFor, replyRoom, ownRoom, usableOf, fresh, Begin-done, Step-done};
 ghost use Rattle.link.specs.Run.{Run-done};
-ghost use Rattle.link.specs.Parts.{begunFrom, refusedFrom, pausedFrom, goingFrom, restingWith, Mark-done, Opening-done, Data-done, Reply-done, Own-done, Finished-done, failureFor, endedFrom, endsOf, noteFor};
+ghost use Rattle.link.specs.Parts.{begunFrom, refusedFrom, pausedFrom, goingFrom, restingWith, Mark-done, Opening-done, Data-done, Reply-done, Own-done, Finished-done, failureFor, endedFrom, endsOf, noteFor, passedFrom, Pass-done};
 
 // What waits: nothing, or one call of a kind.
 pub enum Wait {
@@ -179,11 +179,61 @@ impl Link {
                     return at.ended(answer, i, noted);
                 }
                 noted += put_note(answer, &mut room[5 * noted..]);
+                let n = at.pass(&raw[i..], reply);
+                at = at.passed(n);
+                i += n;
                 continue;
             };
             return at.ended(Answer::Reply(length), i, noted);
         }
         at.ended(Answer::More, i, noted)
+    }
+
+    // Plain raw bytes in the middle of the reply that waits: each would need more, and they are stored at once. Returns how many.
+    fn pass(self, raw: &[u8], reply: &mut [u8]) -> usize
+        requires { ⌜ (usableOf self ≡ true) × (length (now reply) ≡ 257) ⌝ }
+        ensures { λ r. ⌜ Pass-done self (now (reply .entry)) (now (raw .entry)) r (now (reply .exit)) ⌝ }
+    {
+        if self.escape {
+            return 0;
+        }
+        let doing = self.doing;
+        match doing {
+            Doing::Open(_) => 0,
+            Doing::Quiet => {
+                let wait = self.wait;
+                match wait {
+                    Wait::Idle => 0,
+                    Wait::Waiting(kind) => self.pass_reply(kind, raw, reply),
+                }
+            }
+        }
+    }
+
+    fn pass_reply(self, kind: CallKind, raw: &[u8], reply: &mut [u8]) -> usize
+        requires { ⌜ (usableOf self ≡ true) × (self .escape ≡ false) × (self .doing ≡ Quiet) × (self .wait ≡ Waiting kind) × (length (now reply) ≡ 257) ⌝ }
+        ensures { λ r. ⌜ Pass-done self (now (reply .entry)) (now (raw .entry)) r (now (reply .exit)) ⌝ }
+    {
+        let got = self.got;
+        let end = got + kind.shape().ahead(got);
+        turns::copy_plain(raw, &mut reply[got..end])
+    }
+
+    // The link after that many bytes of the reply.
+    fn passed(self, n: usize) -> Link
+        requires { ⌜ (0 < n → self .got + n ≤ 257) ⌝ }
+        ensures { λ r. ⌜ r ≡ passedFrom self n ⌝ }
+    {
+        let wait = self.wait;
+        let doing = self.doing;
+        Link {
+            wait: wait,
+            got: self.got + n,
+            escape: self.escape,
+            doing: doing,
+            held: self.held,
+            stopped: self.stopped,
+        }
     }
 
     // The loop ended with this answer.

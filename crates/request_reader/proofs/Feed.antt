@@ -1,11 +1,11 @@
 -- Feeding a slice: a chain of steps grows by one at its end; what `feed` promises on an answer and where the slice ends; a slice of one byte is a step.
-use Prim.Native.Nat.{ℕ, _+_, _≤_, _<_}
+use Prim.Native.Nat.{ℕ, _+_, _-_, _≤_, _<_}
 use mathlib.Core.Path.{_≡_, refl, sym, ap, _∙_}
 use mathlib.Core.List.{List, [], _∷_, _++_, append-nil}
 use native.Mathlib.Numerals.{add-one}
 use native.Mathlib.Omega.{arith}
-use lib.ListN.{length, take, replicate, getD, length-append, length-replicate, replicate-append-replicate}
-use lib.Seq.{take-suc}
+use lib.ListN.{length, take, drop, replicate, getD, length-take, length-drop, length-append, length-replicate, replicate-append-replicate}
+use lib.Seq.{take-suc, take-all, take-add}
 use types.Run.{OneOf, miss}
 use denote.Enum.Declared.{tagOf}
 use Rattle.serial_rules.specs.Reader as rules
@@ -18,6 +18,7 @@ use Rattle.request_reader.specs.declared.Fed.{Fed}
 use Rattle.request_reader.specs.View.{answerOf, Step-done}
 use Rattle.request_reader.specs.Read.{Read, stop, took}
 use Rattle.request_reader.specs.Feed.{lastOf, told, Feed-done}
+use Rattle.request_reader.specs.Pass.{passedFrom, Pass-done}
 
 -- one step at the end of a chain
 one-more : {r q : Reader} {lent xs left end : List ℕ} {gave : List rules.Answer} {x : ℕ} {o : Stepped} → Read r lent xs gave q left → Step-done q left x o end
@@ -34,6 +35,21 @@ other-last More left h = absurd (miss others 0 tt h)
 other-last (Character b) left h = refl
 other-last (Request style code n) left h = refl
 other-last (Refused n) left h = refl
+
+-- a chain behind a chain, over the bytes behind the first j
+read-join : {r q p : Reader} {lent left end xs ys : List ℕ} {gave more : List rules.Answer} → Read r lent xs gave q left → Read q left ys more p end
+    → Read r lent (xs ++ ys) (gave ++ more) p end
+read-join stop t = t
+read-join (took e s) t = took e (read-join s t)
+
+pub passes : {r q at : Reader} {lent left end : List ℕ} {n : ℕ} (raw : List ℕ) (j : ℕ) → Read r lent (take j raw) (replicate j rules.needMore) q left
+    → Pass-done q left (take (length raw - j) (drop j raw)) n end → at ≡ passedFrom q n → Read r lent (take (j + n) raw) (replicate (j + n) rules.needMore) at end
+passes {n = n} raw j s d e =
+    let tail : take (length raw - j) (drop j raw) ≡ drop j raw = take-all (length raw - j) (drop j raw) (simp length-drop (omega arith)) in
+    rw (e, take-add j n raw, ← tail, ← replicate-append-replicate j n rules.needMore) (read-join s (d .steps))
+
+pub pass-within : {q : Reader} {left end : List ℕ} {n : ℕ} (raw : List ℕ) (j : ℕ) → j ≤ length raw → Pass-done q left (take (length raw - j) (drop j raw)) n end → j + n ≤ length raw
+pass-within raw j h d = let w = simp (length-take, length-drop) at (d .within) in omega arith
 
 -- after `i` bytes that needed more
 module _ {r q : Reader} {lent left : List ℕ} (raw : List ℕ) (i : ℕ) (so-far : Read r lent (take i raw) (replicate i rules.needMore) q left) where

@@ -1,5 +1,7 @@
+pub mod Ahead
 pub mod Bytes
 pub mod Feed
 pub mod Limits
+pub mod Plains
 pub mod Steps
 pub mod Streams

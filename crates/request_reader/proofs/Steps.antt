@@ -26,11 +26,11 @@ use Rattle.request_reader.specs.declared.Stepped.{Stepped}
 use Rattle.request_reader.proofs.Limits.{and-both, more-fits, longest-fits, starts-style, starts-body}
 
 -- a record within its limits, part by part
-within-style : (r : Reader) → within r ≡ true → styleOk (carrierOf (r .carrier)) (r .style) ≡ true
+pub within-style : (r : Reader) → within r ≡ true → styleOk (carrierOf (r .carrier)) (r .style) ≡ true
 unfolding within
 within-style r e = and-both (styleOk (carrierOf (r .carrier)) (r .style)) (ltb (r .count) (longestBody (r .code))) e .0
 
-within-count : (r : Reader) → within r ≡ true → r .count < longestBody (r .code)
+pub within-count : (r : Reader) → within r ≡ true → r .count < longestBody (r .code)
 unfolding within
 within-count r e = ltb-true (r .count) (longestBody (r .code)) (and-both (styleOk (carrierOf (r .carrier)) (r .style)) (ltb (r .count) (longestBody (r .code))) e .1)
 
@@ -84,7 +84,7 @@ module _ (r : Reader) {x : Stepped} where
         (going-gives r lent false (styleOf m) (codeIn m) 0 (starts-style (carrierOf (r .carrier)) m byte s) (starts-body (carrierOf (r .carrier)) m s n0))
 
 -- the lent bytes with one more behind the first n
-taken : (l : List ℕ) (n b : ℕ) → n < length l → take (n + 1) (set l n b) ≡ take n l ++ (b ∷ [])
+pub taken : (l : List ℕ) (n b : ℕ) → n < length l → take (n + 1) (set l n b) ≡ take n l ++ (b ∷ [])
 taken l n b h = rw (add-one, take-suc-set)
 
 -- inside a request
@@ -102,11 +102,15 @@ module _ (r : Reader) (lent : List ℕ) {x : Stepped} where
     pub data-refused : {n : ℕ} → bodyTurn (r .code) (take (r .count) lent) b ≡ refused n → x ≡ refusedFrom r n → Inside-done r lent (dataByte b) x lent
     data-refused {n} t q = rw (t, q) (refused-gives r lent n)
 
+    pub data-goes : within r ≡ true → r .count < length lent → r .count + 1 < longestBody (r .code) → bodyTurn (r .code) (take (r .count) lent) b ≡ more →
+        x ≡ goingFrom r false (r .style) (r .code) (r .count + 1) → Inside-done r lent (dataByte b) x (set lent (r .count) b)
+    data-goes w lt fits t q =
+        rw (t, q, ← taken lent (r .count) b lt, length-take-le (r .count) lent (le-of-lt lt))
+        (going-gives r (set lent (r .count) b) false (r .style) (r .code) (r .count + 1) (within-style r w) fits)
+
     pub data-more : within r ≡ true → r .count < length lent → getD lent 1 0 < 256 → bodyTurn (r .code) (take (r .count) lent) b ≡ more →
         x ≡ goingFrom r false (r .style) (r .code) (r .count + 1) → Inside-done r lent (dataByte b) x (set lent (r .count) b)
-    data-more w lt byte t q =
-        rw (t, q, ← taken lent (r .count) b lt, length-take-le (r .count) lent (le-of-lt lt))
-        (going-gives r (set lent (r .count) b) false (r .style) (r .code) (r .count + 1) (within-style r w) (more-fits (r .code) (r .count) b lent (le-of-lt lt) byte t))
+    data-more w lt byte t q = data-goes w lt (more-fits (r .code) (r .count) b lent (le-of-lt lt) byte t) t q
 
     pub data-done : r .count < length lent → bodyTurn (r .code) (take (r .count) lent) b ≡ done →
         x ≡ restingFrom r false (Request (r .style) (r .code) (r .count + 1)) → Inside-done r lent (dataByte b) x (set lent (r .count) b)

@@ -2,9 +2,11 @@
 use crate::Reader;
 use strings::Text;
 use turns::Turn;
+ghost use Prim.Native.Nat.{_-_};
 ghost use mathlib.Core.Path.{_≡_};
 ghost use Rattle.serial_rules.specs.Body.{checkedTurn, wordTurn, findTurn, nameTurn, ended, fileTurn, bodyTurn, longestBody};
 ghost use Rattle.turns.specs.Turns.{turnOf};
+ghost use Rattle.request_reader.specs.Ahead.{Ahead-done};
 
 // A byte of a body whose last byte has the index `last` and has to pass a test.
 fn checked_turn(n: usize, last: usize, ok: bool) -> Turn
@@ -111,6 +113,73 @@ pub fn body_turn(code: u8, s: &[u8], b: u8) -> Turn
         0x16 => turns::fixed_turn(n, 13),
         _ => Turn::Refused(4),
     }
+}
+
+// How many bytes behind s need more, whatever they are but an escape or a return.
+pub fn ahead(code: u8, s: &[u8]) -> usize
+    ensures { λ r. ⌜ Ahead-done code (now (s .entry)) r ⌝ }
+{
+    let n = s.len();
+    match code {
+        0x02 => up_to(n, 255),
+        0x08 => word_ahead(s),
+        0x0A => up_to(n, 4),
+        0x0C => up_to(n, 5),
+        0x12 => find_ahead(s),
+        0x14 => file_ahead(s),
+        0x16 => up_to(n, 13),
+        _ => 0,
+    }
+}
+
+// How many bytes stand behind the first n, up to the index `last`.
+fn up_to(n: usize, last: usize) -> usize
+    ensures { λ r. ⌜ r ≡ last - n ⌝ }
+{
+    if n < last {
+        return last - n;
+    }
+    0
+}
+
+// In OSWORD's block.
+fn word_ahead(s: &[u8]) -> usize
+    ensures { λ r. ⌜ Ahead-done 8 (now (s .entry)) r ⌝ }
+{
+    let n = s.len();
+    if n < 2 {
+        return 0;
+    }
+    let last = s[1] as usize;
+    up_to(n - 2, last)
+}
+
+// In the string of an OSFIND that opens.
+fn find_ahead(s: &[u8]) -> usize
+    ensures { λ r. ⌜ Ahead-done 18 (now (s .entry)) r ⌝ }
+{
+    let n = s.len();
+    if n == 0 {
+        return 0;
+    }
+    if s[0] == 0 {
+        return 0;
+    }
+    up_to(n, 256)
+}
+
+// In OSFILE's block, and in its name.
+fn file_ahead(s: &[u8]) -> usize
+    ensures { λ r. ⌜ Ahead-done 20 (now (s .entry)) r ⌝ }
+{
+    let n = s.len();
+    if n < 16 {
+        return 16 - n;
+    }
+    if name_ended(&s[16..]) {
+        return 0;
+    }
+    up_to(n, 271)
 }
 
 // The length of the longest body of a code; 0 for a code without a body.

@@ -3,15 +3,18 @@ mod bodies;
 
 use escape::Piece;
 use turns::Turn;
+ghost use Prim.Native.Nat.{_+_, _≤_, _<_};
 ghost use mathlib.Core.Path.{_≡_};
-ghost use mathlib.Core.Bool.{true};
+ghost use mathlib.Core.Bool.{true, false};
 ghost use lib.ListN.{length};
 ghost use Rattle.escape.specs.Layer.{pieceFor};
 ghost use Rattle.serial_rules.specs.Call.{styleOk};
 ghost use Rattle.serial_rules.specs.Reader.{pieceOutside, pieceInside, starts};
 ghost use Rattle.serial_rules.specs.Escape.{mark, dataByte};
 ghost use Rattle.request_reader.specs.View.{carrierOf, within, fresh, Step-done};
+ghost use Rattle.request_reader.specs.declared.Phase.the-variants.{Inside};
 ghost use Rattle.request_reader.specs.Feed.{Feed-done};
+ghost use Rattle.request_reader.specs.Pass.{passedFrom, Pass-done};
 ghost use Rattle.request_reader.specs.Parts.{standingOf, refusedFrom, restingFrom, goingFrom, Outside-done, Inside-done};
 
 // The serial lead, with the escape layer and marks, or the parallel side, with plain codes and bodies.
@@ -115,11 +118,57 @@ impl Reader {
                     reader: at,
                 };
             };
+            let n = at.pass(&raw[i..], body);
+            at = at.passed(n);
+            i += n;
         }
         Fed {
             answer: Answer::More,
             used: i,
             reader: at,
+        }
+    }
+
+    // Plain raw bytes in the middle of a field: each would need more, and they are stored at once. Returns how many.
+    fn pass(self, raw: &[u8], body: &mut [u8]) -> usize
+        requires { ⌜ (self .phase ≡ Inside → within self ≡ true) × (length (now body) ≡ 273) ⌝ }
+        ensures { λ r. ⌜ Pass-done self (now (body .entry)) (now (raw .entry)) r (now (body .exit)) ⌝ }
+    {
+        if self.escape {
+            return 0;
+        }
+        let phase = self.phase;
+        match phase {
+            Phase::Outside => 0,
+            Phase::Stopped => 0,
+            Phase::Inside => self.pass_body(raw, body),
+        }
+    }
+
+    fn pass_body(self, raw: &[u8], body: &mut [u8]) -> usize
+        requires { ⌜ (self .phase ≡ Inside) × (within self ≡ true) × (self .escape ≡ false) × (length (now body) ≡ 273) ⌝ }
+        ensures { λ r. ⌜ Pass-done self (now (body .entry)) (now (raw .entry)) r (now (body .exit)) ⌝ }
+    {
+        let count = self.count;
+        let most = bodies::ahead(self.code, &body[..count]);
+        let end = count + most;
+        turns::copy_plain(raw, &mut body[count..end])
+    }
+
+    // The reader after that many bytes of the body.
+    fn passed(self, n: usize) -> Reader
+        requires { ⌜ (0 < n → self .count + n ≤ 273) ⌝ }
+        ensures { λ r. ⌜ r ≡ passedFrom self n ⌝ }
+    {
+        let carrier = self.carrier;
+        let phase = self.phase;
+        Reader {
+            carrier: carrier,
+            phase: phase,
+            escape: self.escape,
+            style: self.style,
+            code: self.code,
+            count: self.count + n,
         }
     }
 

@@ -1,7 +1,9 @@
-// One byte of bytes that belong together, against the number n of bytes before it.
+// One byte of bytes that belong together, against the number n of bytes before it; and runs of bytes that need no such look.
 ghost use mathlib.Core.Path.{_≡_};
 ghost use Rattle.serial_rules.specs.Body.{fixedTurn, stringTurn};
 ghost use Rattle.turns.specs.Turns.{turnOf};
+ghost use Rattle.turns.specs.Plain.{plain, Plain-done};
+use escape::Piece;
 use strings::Text;
 
 // What the byte does: more are needed, it is the last, or it is refused with document 01's number.
@@ -32,4 +34,32 @@ pub fn fixed_turn(n: usize, last: usize) -> Turn
         return Turn::More;
     }
     Turn::Done
+}
+
+// Copies the bytes at the start of `raw` that are neither an escape nor a return, as far as `out` goes; returns how many.
+pub fn copy_plain(raw: &[u8], out: &mut [u8]) -> usize
+    ensures { λ r. ⌜ Plain-done (now (raw .entry)) (now (out .entry)) r (now (out .exit)) ⌝ }
+{
+    let mut i: usize = 0;
+    while i < out.len() {
+        if raw.len() <= i {
+            return i;
+        }
+        let b = raw[i];
+        if !is_plain(b) {
+            return i;
+        }
+        out[i] = b;
+        i += 1;
+    }
+    i
+}
+
+fn is_plain(b: u8) -> bool
+    ensures { λ r. ⌜ r ≡ plain b ⌝ }
+{
+    if b == Piece::ESCAPE {
+        return false;
+    }
+    b != Text::RETURN
 }

@@ -1,12 +1,14 @@
 -- Turn i has passed over the reports of the first i raw bytes, and their notes stand in the room, where one for each byte would fit.
 use denote.Ref.{now}
-use Prim.Native.Nat.{_-_, _≤_}
+use Prim.Native.Nat.{_+_, _-_, _≤_}
 use native.Mathlib.Omega.{arith}
 use mathlib.Core.Path.{refl, sym, _∙_}
 use lib.ListN.{length, take, length-take, length-drop}
 use Rattle.escape.proofs.Laws.{put-length}
 use Rattle.link.specs.Run.{passes}
-use Rattle.link.proofs.Notes.{Passing, nothing, note-short, no-room, all-read, one-more, ended}
+use Rattle.link.proofs.Notes.{ends-lent, Passing, skips, skip-within, nothing, note-short, no-room, all-read, one-more, ended}
+use Rattle.link.proofs.Plains.{still-usable}
+use borrow.Author.Tests.{not-false}
 use borrow.Author.Needs.{needs}
 use Rattle.link.proofs.Link.run.Statement.{statement}
 use Rattle.link.proofs.Link.run.Tie as tie
@@ -50,22 +52,44 @@ put-note-requires c κs =
     let h = put-length (c .before .before .before .before .before .before .before .before .before .before .loop .inv .2 .put) in
     simp (length-take, length-drop) (omega arith)
 
+add-i-2 : tie.Need-add-i-2 Inv-loop μ-loop
+add-i-2 c =
+    let t = c .before .before .before .before .before .before .before .before .before .before .before .before .before .before .before .before in
+    let raw = now (t .before .before .before .before .before .args .raw) in
+    omega (arith, skip-within raw (t .before .loop .i + 1) (omega arith) (c .before .pass .ensures))
+
+loop-less : tie.Need-loop-less Inv-loop μ-loop
+loop-less c =
+    let t = c .before .before .before .before .before .before .before .before .before .before .before .before .before .before .before .before in
+    let raw = now (t .before .before .before .before .before .args .raw) in
+    omega (arith, skip-within raw (t .before .loop .i + 1) (omega arith) (c .before .pass .ensures))
+
 add-noted : tie.Need-add-noted Inv-loop μ-loop
 add-noted c =
     let h = note-short (c .before .before .before .before .before .before .before .before .step .result .answer) in
     omega (arith, c .before .before .put-note .ensures .count)
 
+pass-requires : tie.Need-pass-requires Inv-loop μ-loop
+pass-requires c κs =
+    let q = c .before .before .before .before .before .before in
+    let t = q .before .before .before .before in
+    let goes = sym (q .before .ends .ensures) ∙ q .if2 .left in
+    let a = t .step .result .answer in
+    (still-usable (t .step .ensures) (not-false _ (ends-lent a _ _ ∙ goes)), search needs)
+
 loop-again : tie.Need-loop-again Inv-loop μ-loop
 loop-again c =
-    let q = c .before .before .before .before .before .before .before .before in
+    let o = c .before .before .before .before in
+    let q = o .before .before .before .before .before .before .before .before in
     let t = q .before .before .before .before in
     let l = t .before .loop in
     let raw = now (t .before .before .before .before .before .args .raw) in
-    let w = c .before .before .put-note .ensures in
+    let w = o .before .before .put-note .ensures in
     let h = note-short (q .step .result .answer) in
-    let goes = sym (c .before .before .before .before .before .ends .ensures) ∙ c .before .before .before .before .if2 .left in
-    let p = one-more raw (l .i) (l .noted) (t .before .before .if1 .left) (l .inv .2) (t .loop-test .taken) (q .step .ensures) (c .before .before .put-note .result) goes w in
-    (omega arith, omega (arith, w .count), p)
+    let goes = sym (o .before .before .before .before .before .ends .ensures) ∙ o .before .before .before .before .if2 .left in
+    let p = one-more raw (l .i) (l .noted) (t .before .before .if1 .left) (l .inv .2) (t .loop-test .taken) (q .step .ensures) (o .before .before .put-note .result) goes w in
+    let d = c .before .pass .ensures in
+    (skip-within raw (l .i + 1) (omega arith) d, omega (arith, w .count), skips raw (l .i + 1) p d (c .passed .ensures))
 
 same-length-2 : tie.Need-same-length-2 Inv-loop μ-loop
 same-length-2 c = put-length (c .before .before .before .before .before .before .before .before .before .before .loop .inv .2 .put)
@@ -112,6 +136,12 @@ run-spec =
     put-note-requires
     add-noted
     (λ c. search needs)
+    (λ c. search needs)
+    (λ c. search needs)
+    pass-requires
+    (λ c κs. c .pass .ensures .below)
+    add-i-2
+    loop-less
     loop-again
     (λ c κs. search needs)
     same-length-2

@@ -1,7 +1,8 @@
--- The invariant: the first `i` raw bytes were read in a chain of steps, and each needed more. A turn adds one step at its end; any other answer ends the loop.
-use Rattle.request_reader.proofs.Feed.{again, answered, needs-more}
+-- The invariant: the first `i` raw bytes were read in a chain of steps, and each needed more. A turn adds one step at its end, and the run of plain bytes behind it; any other answer ends the loop.
+use Rattle.request_reader.proofs.Feed.{passes, pass-within, again, answered, needs-more}
+use Rattle.request_reader.proofs.Plains.{still-within}
 use denote.Ref.{now}
-use Prim.Native.Nat.{_≤_, _-_}
+use Prim.Native.Nat.{_+_, _≤_, _-_}
 use native.Mathlib.Omega.{arith}
 use lib.ListN.{length, take, replicate}
 use borrow.Author.Needs.{needs}
@@ -31,14 +32,28 @@ add-i c = search needs
 enum-told : tie.Need-enum-told Inv-loop μ-loop
 enum-told c = search needs
 
+pass-requires : tie.Need-pass-requires Inv-loop μ-loop
+pass-requires c κs = let q = c .before .before in (still-within (q .before .before .before .step .ensures) (q .enum-told .given .1), search needs)
+
+-- the bytes up to the end of the run lie within the slice
+add-i-2 : tie.Need-add-i-2 Inv-loop μ-loop
+add-i-2 c =
+    let q = c .before .before .before .before .before .before .before .before .before .before in
+    omega (arith, pass-within (now (q .before .before .before .args .raw)) (q .before .loop .i + 1) (omega arith) (c .before .pass .ensures))
+
 loop-less : tie.Need-loop-less Inv-loop μ-loop
-loop-less c = search needs
+loop-less c =
+    let q = c .before .before .before .before .before .before .before .before .before .before in
+    omega (arith, pass-within (now (q .before .before .before .args .raw)) (q .before .loop .i + 1) (omega arith) (c .before .pass .ensures))
 
 loop-again : tie.Need-loop-again Inv-loop μ-loop
 loop-again c =
-    let s = c .before .before .before in
-    let q = s .before .before .before .before in
-    (omega arith, again (now (q .before .before .args .raw)) (q .loop .i) (q .loop .inv .1) (omega arith) (s .step .ensures) (c .enum-told .given .1))
+    let s = c .before .before .before .before in
+    let q = s .before .before .before .before .before .before .before in
+    let raw = now (q .before .before .args .raw) in
+    let d = c .before .pass .ensures in
+    let one = again raw (q .loop .i) (q .loop .inv .1) (omega arith) (s .before .before .before .step .ensures) (s .enum-told .given .1) in
+    (pass-within raw (q .loop .i + 1) (omega arith) d, passes raw (q .loop .i + 1) one d (c .passed .ensures))
 
 returns : tie.Need-returns Inv-loop μ-loop
 returns c =
@@ -62,7 +77,13 @@ feed-spec =
     step-requires
     add-i
     enum-told
+    returns
+    (λ c. search needs)
+    (λ c. search needs)
+    (λ c. search needs)
+    pass-requires
+    (λ c κs. c .pass .ensures .below)
+    add-i-2
     loop-less
     loop-again
-    returns
     returns-2)

@@ -1,0 +1,53 @@
+-- The bytes copied are plain and in the middle of a field, where the limits leave room for them.
+use denote.Ref.{now}
+use Prim.Native.Nat.{_+_, _-_}
+use native.Mathlib.Omega.{arith}
+use mathlib.Core.Path.{sym}
+use lib.Seq.{length-take-le}
+use Rattle.request_reader.proofs.Steps.{within-room}
+use Rattle.request_reader.proofs.Plains.{passes-plain, end-fits}
+use borrow.Author.Needs.{needs}
+use Rattle.request_reader.proofs.Reader.pass_body.Statement.{statement}
+use Rattle.request_reader.proofs.Reader.pass_body.Tie as tie
+
+slice-reshare-prefix-ahead : tie.Need-slice-reshare-prefix-ahead
+slice-reshare-prefix-ahead c = let s = c .before .before in let room = within-room (s .args .self) (s .pre .1) in search needs
+
+slice-aggregate-ahead : tie.Need-slice-aggregate-ahead
+slice-aggregate-ahead c =
+    let s = c .before .before .before in
+    let room = within-room (s .args .self) (s .pre .1) in
+    sym (length-take-le (s .args .self .count) (now (s .args .body)) (omega arith))
+
+add-end : tie.Need-add-end
+add-end c =
+    let s = c .before .before .before .before in
+    omega (arith, end-fits (s .args .self) (now (s .args .body)) (c .ahead .result) (s .pre .1) (s .pre .3) (c .ahead .ensures))
+
+part-copy-plain-end : tie.Need-part-copy-plain-end
+part-copy-plain-end c =
+    let s = c .before .before .before .before in
+    omega (arith, s .pre .3, end-fits (s .args .self) (now (s .args .body)) (c .ahead .result) (s .pre .1) (s .pre .3) (c .ahead .ensures))
+
+returns : tie.Need-returns
+returns c =
+    let q = c .before .before .before .before in
+    let s = q .before .before .before .before in
+    let n = q .ahead .result in
+    passes-plain (s .args .self) (s .pre .0) (s .pre .1) (s .pre .2) (now (s .args .body)) n (s .args .self .count + n - s .args .self .count) (q .ahead .ensures) (omega arith) (s .pre .3)
+    (c .before .before .copy-plain .ensures)
+
+pub pass-body-spec : {M : Type 1} → statement M
+pass-body-spec =
+    tie.close
+    (tie.spec
+    slice-reshare-prefix-ahead
+    slice-aggregate-ahead
+    (λ c κs. search needs)
+    add-end
+    (λ c. search needs)
+    (λ c. search needs)
+    part-copy-plain-end
+    (λ c κs. search needs)
+    (λ c. search needs)
+    returns)
