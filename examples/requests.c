@@ -80,7 +80,7 @@ static void print_read(const TubeRead *read, const uint8_t *body, size_t at) {
 }
 
 int main(void) {
-    uint8_t raw[4096], body[TUBE_BODY];
+    uint8_t raw[4096], body[TUBE_BODY] = {0};
     TubeReader reader = tube_reader(TUBE_SERIAL);
     size_t length, before = 0; /* bytes of earlier slices */
     while ((length = fread(raw, 1, sizeof raw, stdin)) > 0) {
