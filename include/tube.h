@@ -8,7 +8,7 @@
  * What the caller owes, here and nowhere else, is what C cannot say of a pointer:
  *   - it is not null and valid for the whole call; an empty buffer has length 0 and any valid pointer;
  *   - it points to a whole record, to as many bytes as the length behind it says, or to the whole array that its declaration names
- *     (TUBE_BODY, TUBE_REPLY_BYTES, TUBE_OWN_BYTES);
+ *     (TUBE_BODY, TUBE_REPLY_LENGTH, TUBE_OWN_LENGTH);
  *   - what is lent for writing overlaps nothing else that is lent to the same call.
  *
  * Hexadecimal is written &, as the machines do. */
@@ -24,19 +24,19 @@ extern "C" {
 /* ---- The numbered answers ---- */
 
 enum {
-    TUBE_DONE = 0,          /* done */
-    TUBE_MISSING = 1,       /* no such side or offset, or a chip record that holds more than its capacities: chip unchanged, byte 0 */
-    TUBE_NO_ROOM = 2,       /* data write to a channel without room: chip unchanged, byte 0 */
-    TUBE_EMPTY = 3,         /* data read of an empty channel: chip unchanged, byte 0 */
-    TUBE_UNKNOWN_CODE = 4,  /* a mark or a request code that is not carried: the reader or link is stopped */
-    TUBE_MARK_INSIDE = 5,   /* a mark inside a request, or inside an action's own bytes: the reader or link is stopped */
-    TUBE_STRING_LONG = 6,   /* a string or an error's text over 255 bytes: the reader or link is stopped; a writer's buffer untouched */
-    TUBE_STOPPED = 7,       /* a byte given to, or a call begun on, a stopped reader or link: the record is given back as it was */
-    TUBE_BUFFER_SHORT = 8,  /* a lent buffer is too short: no byte of it was touched, nothing was played, no raw byte used */
-    TUBE_BAD_FIELD = 9,     /* a field breaks its rule: the reader is stopped; a writer's buffer untouched */
+    TUBE_DONE = 0,           /* done */
+    TUBE_MISSING = 1,        /* no such side or offset, or a chip record that holds more than its capacities: chip unchanged, byte 0 */
+    TUBE_NO_ROOM = 2,        /* data write to a channel without room: chip unchanged, byte 0 */
+    TUBE_EMPTY = 3,          /* data read of an empty channel: chip unchanged, byte 0 */
+    TUBE_UNKNOWN_CODE = 4,   /* a mark or a request code that is not carried: the reader or link is stopped */
+    TUBE_MARK_INSIDE = 5,    /* a mark inside a request, or inside an action's own bytes: the reader or link is stopped */
+    TUBE_STRING_LONG = 6,    /* a string or an error's text over 255 bytes: the reader or link is stopped; a writer's buffer untouched */
+    TUBE_STOPPED = 7,        /* a byte given to, or a call begun on, a stopped reader or link: the record is given back as it was */
+    TUBE_BUFFER_SHORT = 8,   /* a lent buffer is too short: no byte of it was touched, nothing was played, no raw byte used */
+    TUBE_BAD_FIELD = 9,      /* a field breaks its rule: the reader is stopped; a writer's buffer untouched */
     TUBE_LIMIT_REACHED = 10, /* the play limit is reached and script bytes remain: the chip as after the last played record */
-    TUBE_CUT_SHORT = 11,    /* the script ends inside a record: the same */
-    TUBE_CALL_WAITS = 12    /* a call begun while another waits: the link is given back as it was */
+    TUBE_CUT_SHORT = 11,     /* the script ends inside a record: the same */
+    TUBE_CALL_WAITS = 12     /* a call begun while another waits: the link is given back as it was */
 };
 
 /* ---- The chip ---- */
@@ -232,10 +232,10 @@ TubeKind tube_kind_of(uint8_t code, const uint8_t *body, size_t length);
 /* ---- Replies and actions, inward: the client's end of the serial lead ---- */
 
 enum {
-    TUBE_REPLY_BYTES = 257, /* the longest reply, and the bytes lent for it */
-    TUBE_OWN_BYTES = 257,   /* the most bytes that an action has of its own, and the bytes lent for them */
-    TUBE_LENT = 257,        /* either */
-    TUBE_NOTE = 5           /* the bytes of a note */
+    TUBE_REPLY_LENGTH = 257, /* the longest reply, and the bytes lent for it */
+    TUBE_OWN_LENGTH = 257,   /* the most bytes that an action has of its own, and the bytes lent for them */
+    TUBE_LENT = 257,         /* either */
+    TUBE_NOTE = 5            /* the bytes of a note */
 };
 
 enum { TUBE_NO_ACTION = 0, TUBE_IN_ERROR = 1, TUBE_IN_EVENT = 2, TUBE_IN_ADDRESS = 3 }; /* the open action */
@@ -302,7 +302,7 @@ TubeBegun tube_begin(TubeLink link, uint8_t call, uint8_t out_length);
 
 /* One raw byte. The reply so far and the open action's own bytes stand in the two lent buffers, which the caller keeps from call to call;
  * reply[got] or own[held] changes where the byte is taken into it, and no other. */
-TubeTold tube_link_step(TubeLink link, uint8_t raw, uint8_t reply[TUBE_REPLY_BYTES], uint8_t own[TUBE_OWN_BYTES]);
+TubeTold tube_link_step(TubeLink link, uint8_t raw, uint8_t reply[TUBE_REPLY_LENGTH], uint8_t own[TUBE_OWN_LENGTH]);
 
 typedef struct {
     TubeTold told; /* where it ended: a reply, an error, a restart or a refusal, or need-more where the slice ended first */
@@ -314,7 +314,7 @@ typedef struct {
  * address on the way leaves a note in `room`, one behind the other: TUBE_NOTE bytes, which are kind, first, second, third and fourth as a
  * TubeTold has them. The room is for a note a raw byte: where it is shorter than TUBE_NOTE * raw_length the answer is TUBE_BUFFER_SHORT, no
  * byte is used and nothing changes, the link too. */
-TubeRan tube_run(TubeLink link, const uint8_t *raw, size_t raw_length, uint8_t reply[TUBE_REPLY_BYTES], uint8_t own[TUBE_OWN_BYTES], uint8_t *room,
+TubeRan tube_run(TubeLink link, const uint8_t *raw, size_t raw_length, uint8_t reply[TUBE_REPLY_LENGTH], uint8_t own[TUBE_OWN_LENGTH], uint8_t *room,
                  size_t room_length);
 
 /* The replies, with the numbers that each has; a carry is set where its number is not 0. */

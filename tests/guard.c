@@ -432,7 +432,7 @@ static int same_link(TubeLink a, TubeLink b) {
 
 static int sound_told(TubeTold t, TubeLink given) {
     switch (t.kind) {
-    case TUBE_TOLD_REPLY: return t.length > 0 && t.length <= TUBE_REPLY_BYTES && t.first == 0;
+    case TUBE_TOLD_REPLY: return t.length > 0 && t.length <= TUBE_REPLY_LENGTH && t.first == 0;
     case TUBE_TOLD_ERROR: return t.length <= 255;
     case TUBE_TOLD_REFUSED: return t.length == 0 && t.first >= TUBE_UNKNOWN_CODE && t.first <= TUBE_BUFFER_SHORT
                                    && (t.first < TUBE_STOPPED || same_link(t.link, given) || t.link.stopped != 0);
@@ -456,18 +456,18 @@ static void try_begin(void) {
 
 static void try_link_step(void) {
     TubeLink given = any_link();
-    uint8_t *reply = lend(0, TUBE_REPLY_BYTES);
+    uint8_t *reply = lend(0, TUBE_REPLY_LENGTH);
     filled(0);
-    uint8_t *own = lend(1, TUBE_OWN_BYTES);
+    uint8_t *own = lend(1, TUBE_OWN_LENGTH);
     own[0] = below(2) ? 0 : own[0];
     filled(1);
     TubeTold t = tube_link_step(given, below(4) ? edge() : 0, reply, own);
     came_kind(t.kind, TUBE_TOLD_REFUSED, t.first);
-    size_t got = at_most(given.got, TUBE_REPLY_BYTES), held = at_most(given.held, TUBE_OWN_BYTES);
-    check(INSIDE, stays(0, 0, TUBE_REPLY_BYTES) && stays(1, 0, TUBE_OWN_BYTES));
+    size_t got = at_most(given.got, TUBE_REPLY_LENGTH), held = at_most(given.held, TUBE_OWN_LENGTH);
+    check(INSIDE, stays(0, 0, TUBE_REPLY_LENGTH) && stays(1, 0, TUBE_OWN_LENGTH));
     check(STAYS, t.kind == TUBE_TOLD_REFUSED || t.kind == TUBE_TOLD_CHARACTER
                      ? all_stay(0) && all_stay(1)
-                     : (all_stay(0) || all_stay(1)) && stays(0, got, at_most(got + 1, TUBE_REPLY_BYTES)) && stays(1, held, at_most(held + 1, TUBE_OWN_BYTES)));
+                     : (all_stay(0) || all_stay(1)) && stays(0, got, at_most(got + 1, TUBE_REPLY_LENGTH)) && stays(1, held, at_most(held + 1, TUBE_OWN_LENGTH)));
     check(SOUND, sound_told(t, given) && (t.kind != TUBE_TOLD_REFUSED || t.first != TUBE_BUFFER_SHORT));
 }
 
@@ -479,19 +479,19 @@ static void try_run(void) {
     if (length >= 4 && below(4) == 0)
         memcpy(raw + below(length - 3), "\x9B\0\0\0", 4); /* a restart */
     filled(0);
-    uint8_t *reply = lend(1, TUBE_REPLY_BYTES);
+    uint8_t *reply = lend(1, TUBE_REPLY_LENGTH);
     filled(1);
-    uint8_t *own = lend(2, TUBE_OWN_BYTES);
+    uint8_t *own = lend(2, TUBE_OWN_LENGTH);
     filled(2);
     uint8_t *room = lend(3, room_length);
     filled(3);
     TubeRan r = tube_run(given, raw, length, reply, own, room, room_length);
     came_kind(r.told.kind, TUBE_TOLD_REFUSED, r.told.first);
-    size_t got = at_most(given.got, TUBE_REPLY_BYTES), held = at_most(given.held, TUBE_OWN_BYTES);
+    size_t got = at_most(given.got, TUBE_REPLY_LENGTH), held = at_most(given.held, TUBE_OWN_LENGTH);
     int tight = room_length < need;
-    check(INSIDE, stays(1, 0, TUBE_REPLY_BYTES) && stays(2, 0, TUBE_OWN_BYTES) && stays(3, 0, room_length));
+    check(INSIDE, stays(1, 0, TUBE_REPLY_LENGTH) && stays(2, 0, TUBE_OWN_LENGTH) && stays(3, 0, room_length));
     check(STAYS, tight ? all_stay(0) && all_stay(1) && all_stay(2) && all_stay(3)
-                       : all_stay(0) && stays(1, got, at_most(got + r.used, TUBE_REPLY_BYTES)) && stays(2, 0, at_most(held + r.used, TUBE_OWN_BYTES))
+                       : all_stay(0) && stays(1, got, at_most(got + r.used, TUBE_REPLY_LENGTH)) && stays(2, 0, at_most(held + r.used, TUBE_OWN_LENGTH))
                              && stays(3, 0, at_most(TUBE_NOTE * r.noted, room_length)));
     int notes = r.noted <= r.used && r.used <= length;
     for (size_t i = 0; notes && i < r.noted; i++)
@@ -507,7 +507,7 @@ static void try_run(void) {
 /* ---- Replies ---- */
 
 static void try_write_reply(void) {
-    static uint8_t large[2 * TUBE_REPLY_BYTES];
+    static uint8_t large[2 * TUBE_REPLY_LENGTH];
     static const uint8_t forms[TUBE_CALLS] = {0, 1, 2, 3, 4, 6, 7, 0, 8, 8, 2, 7, 9};
     static const size_t blocks[TUBE_CALLS] = {0, 0, 0, 0, 0, 0, 4, 0, 0, 0, 0, 16, 13};
     uint8_t call = tag(TUBE_CALLS), out_length = byte(), carry = byte(), x = edge(), y = edge(), a = edge();

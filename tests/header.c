@@ -387,7 +387,7 @@ static TubeLink odd_link(int i) {
     case 3: odd.got = 1; break;
     case 4: odd.held = SIZE_MAX; break;
     case 5: odd.wait = 1 + TUBE_OSBGET, odd.got = 2; break;
-    case 6: odd.action = TUBE_IN_ERROR, odd.held = TUBE_OWN_BYTES; break;
+    case 6: odd.action = TUBE_IN_ERROR, odd.held = TUBE_OWN_LENGTH; break;
     default: odd.wait = 1 + TUBE_OSWORD; break; /* with out length 0 */
     }
     return odd;
@@ -450,7 +450,7 @@ static void steps(void) {
     error[sizeof error - 1] = 0;
     own = lend(&two);
     TubeTold longest = stepped(waits, error, sizeof error, reply, own);
-    int ends = told(longest, TUBE_TOLD_ERROR, 255, 17, 0, 0, 0) && own[0] == 17 && memcmp(own + 1, error + 3, 256) == 0 && kept(&two, 0, TUBE_OWN_BYTES) && same_link(longest.link, fresh);
+    int ends = told(longest, TUBE_TOLD_ERROR, 255, 17, 0, 0, 0) && own[0] == 17 && memcmp(own + 1, error + 3, 256) == 0 && kept(&two, 0, TUBE_OWN_LENGTH) && same_link(longest.link, fresh);
     TubeTold restart = stepped(waits, (const uint8_t[4]){0x9B, 0, 0, 0}, 4, reply, own), empty = stepped(waits, (const uint8_t[4]){0x9B, 0, 1, 0}, 4, reply, own);
     expect("tube_link_step: errors of 255 and 0 bytes and a restart end the call", ends && told(restart, TUBE_TOLD_RESTART, 0, 0, 0, 0, 0) && same_link(restart.link, fresh)
                                                                                        && told(empty, TUBE_TOLD_ERROR, 0, 1, 0, 0, 0) && kept(&one, 0, 0));
@@ -463,13 +463,13 @@ static void steps(void) {
     TubeTold five = stepped(waits, (const uint8_t[4]){0x9B, 0x90, 0x9B, 0x80}, 4, reply, own);
     expect("tube_link_step: refusals 4, 5, 6 stop the link", refused && told(five, TUBE_TOLD_REFUSED, 0, TUBE_MARK_INSIDE, 0, 0, 0) && five.link.stopped == 1);
 
-    static uint8_t line[TUBE_REPLY_BYTES];
+    static uint8_t line[TUBE_REPLY_LENGTH];
     memset(line, 'x', sizeof line);
-    line[TUBE_REPLY_BYTES - 1] = 0x0D;
+    line[TUBE_REPLY_LENGTH - 1] = 0x0D;
     reply = lend(&one), own = lend(&two);
     TubeTold whole = stepped(tube_begin(fresh, TUBE_OSWORD0, 0).link, line, sizeof line, reply, own);
-    int lines = told(whole, TUBE_TOLD_REPLY, TUBE_REPLY_BYTES, 0, 0, 0, 0) && memcmp(reply, line, sizeof line) == 0 && kept(&one, 0, TUBE_REPLY_BYTES) && kept(&two, 0, 0);
-    line[TUBE_REPLY_BYTES - 1] = 'x';
+    int lines = told(whole, TUBE_TOLD_REPLY, TUBE_REPLY_LENGTH, 0, 0, 0, 0) && memcmp(reply, line, sizeof line) == 0 && kept(&one, 0, TUBE_REPLY_LENGTH) && kept(&two, 0, 0);
+    line[TUBE_REPLY_LENGTH - 1] = 'x';
     reply = lend(&one);
     TubeTold over = stepped(tube_begin(fresh, TUBE_OSWORD0, 0).link, line, sizeof line, reply, own);
     expect("tube_link_step: a line of 255 bytes and one of 256", lines && told(over, TUBE_TOLD_REFUSED, 0, TUBE_STRING_LONG, 0, 0, 0) && kept(&one, 0, 256));
@@ -577,7 +577,7 @@ static void replies_written(void) {
     expect("tube_write_reply: no byte into an empty buffer", none.answer == TUBE_DONE && none.length == 0 && kept(&one, 0, 0));
     TubeWritten most = tube_write_reply(TUBE_OSWORD, 255, TUBE_REPLY_BLOCK, 0, 0, 0, 0, escapes, 255, letters, 0, out, 510);
     TubeLink word = tube_begin(tube_link(), TUBE_OSWORD, 255).link;
-    TubeRan back = tube_run(word, out, 510, lend(&two), three.area + GUARD, lend(&three) + TUBE_OWN_BYTES, 510 * TUBE_NOTE);
+    TubeRan back = tube_run(word, out, 510, lend(&two), three.area + GUARD, lend(&three) + TUBE_OWN_LENGTH, 510 * TUBE_NOTE);
     expect("tube_write_reply: 255 bytes that are all doubled, and read again", most.answer == TUBE_DONE && most.length == 510 && kept(&one, 0, 510)
                                                                                   && ran(back, TUBE_TOLD_REPLY, 255, 0, 510, 0) && memcmp(two.area + GUARD, escapes, 255) == 0
                                                                                   && kept(&two, 0, 255) && kept(&three, 0, 0));
