@@ -616,6 +616,9 @@ static void replies_read(void) {
                                              && gives(tube_read_reply(TUBE_OSFIND_OPEN, 0, flags, 1), TUBE_REPLY_BYTE, 0, 0, 0, 0xC1)
                                              && gives(file, TUBE_REPLY_A_BLOCK, 0, 0, 0, 0xC1) && lies(file, 1, 16, 0, 0)
                                              && gives(gbpb, TUBE_REPLY_BLOCK_CARRY_A, 1, 0, 0, 0x41) && lies(gbpb, 0, 13, 0, 0));
+    TubeGiven longest = tube_read_reply(TUBE_OSWORD0, 0, letters, TUBE_REPLY_LENGTH), most = tube_read_reply(TUBE_OSWORD, 255, escapes, 255);
+    expect("tube_read_reply: a line and a block of 255 bytes", gives(longest, TUBE_REPLY_READ_LINE, 0, 0, 0, 0) && lies(longest, 0, 0, 1, 255)
+                                                                   && gives(most, TUBE_REPLY_BLOCK, 0, 0, 0, 0) && lies(most, 0, 255, 0, 0));
     int missing = 1;
     for (int i = 0; i < 256; i++) {
         TubeGiven g = tube_read_reply((uint8_t)i, 255, flags, 0);
