@@ -1,23 +1,11 @@
-//! Measures the proved library's reply reader, by its loop, and its reply writer
-//! against the second program, in one run and on the same replies.
+//! Replies, read through the loop and written.
 
-use std::process::ExitCode;
-use std::time::Instant;
-
-// Single steps and the fields of replies are not measured.
-#[allow(dead_code)]
-#[path = "../second/interface.rs"]
-mod interface;
-
-#[allow(dead_code)]
-#[path = "../second/link.rs"]
-mod link;
-
-use interface::{TubeRan, tube_begin, tube_link, tube_run, tube_write_reply};
-use link::{
+use crate::interface::{self, TubeRan, tube_begin, tube_link, tube_run, tube_write_reply};
+use crate::link::{
     A_BLOCK, ACK, BLOCK, BLOCK_CARRY_A, Begun, CARRY_A, CARRY_Y_X, ESCAPED, LENT, LINE, Link, NOTE,
     NUMBER, OSWORD, OSWORD_0, PLAIN, Ran, Reply, Told,
 };
+use crate::measure::{BYTES, Random, Table, add, best, copying, letters};
 
 /// A reply with bytes of its own, and what comes before it.
 struct Load {
@@ -46,29 +34,12 @@ impl Load {
     }
 }
 
-/// Replies in one load, measurements.
+/// Replies in a mixed load, and in one of a single call.
 const REPLIES: usize = 20_000;
-const REPETITIONS: usize = 7;
+const ALIKE: usize = 2_000;
 
 /// An event and an Escape state.
 const ACTIONS: [&[u8]; 2] = [&[0x9B, 0x90, 0x01, 0x9B, 0x9B, 0x02], &[0x9B, 0x81]];
-
-fn next(state: &mut u64) -> u64 {
-    *state ^= *state << 13;
-    *state ^= *state >> 7;
-    *state ^= *state << 17;
-    *state >> 11
-}
-
-/// `length` bytes without &0D; one in sixteen is &9B.
-fn bytes(state: &mut u64, length: usize) -> Vec<u8> {
-    (0..length)
-        .map(|_| match next(state) {
-            n if n % 16 == 0 => 0x9B,
-            n => (n >> 8) as u8 | 0x10,
-        })
-        .collect()
-}
 
 /// The replies to all calls in turn, with lines and OSWORD's blocks of 0 to 60
 /// bytes; an action before one in eight.
@@ -89,7 +60,7 @@ fn mixed() -> Vec<Load> {
         BLOCK_CARRY_A,
         ESCAPED,
     ];
-    let mut state = 0x0123_4567_89AB_CDEF;
+    let mut random = Random::new();
     (0..REPLIES)
         .map(|number| {
             let reply = KINDS[number % 14];
@@ -97,15 +68,15 @@ fn mixed() -> Vec<Load> {
                 ESCAPED => OSWORD_0,
                 _ => (number % 14) as u8,
             };
-            let free = (next(&mut state) % 61) as usize;
+            let free = (random.next() % 61) as usize;
             let block = [0, 0, 0, 0, free, 0, 4, 0, 0, 0, 0, 16, 13][call as usize];
             let text = if reply == LINE { free } else { 0 };
             Load {
                 call,
                 reply,
-                numbers: [0; 4].map(|_: u8| next(&mut state) as u8),
-                block: bytes(&mut state, block),
-                text: bytes(&mut state, text),
+                numbers: [0; 4].map(|_: u8| random.next() as u8),
+                block: random.bytes(block),
+                text: random.bytes(text),
                 action: match number % 8 {
                     0 => ACTIONS[number / 8 % 2],
                     _ => &[],
@@ -116,14 +87,12 @@ fn mixed() -> Vec<Load> {
 }
 
 /// One reply over and over, with a block or a line of 255 bytes.
-fn long(call: u8) -> Vec<Load> {
-    let letters: Vec<u8> = (0..255).map(|n| b'A' + (n % 26) as u8).collect();
-    let none = Vec::new();
+fn alike(call: u8) -> Vec<Load> {
     let (reply, block, text) = match call {
-        OSWORD => (BLOCK, letters, none),
-        _ => (LINE, none, letters),
+        OSWORD => (BLOCK, letters(255), Vec::new()),
+        _ => (LINE, Vec::new(), letters(255)),
     };
-    (0..REPLIES / 10)
+    (0..ALIKE)
         .map(|_| Load {
             call,
             reply,
@@ -135,52 +104,50 @@ fn long(call: u8) -> Vec<Load> {
         .collect()
 }
 
-fn add(checksum: &mut u64, value: u64) {
-    *checksum = checksum.rotate_left(7).wrapping_add(value).wrapping_mul(5);
-}
-
 // ---- Reading ----
 
-/// The calls whose replies make up a stream.
+/// The calls whose replies make up a stream, and the lengths of its parts.
 struct Talk {
     calls: Vec<(u8, u8)>,
     stream: Vec<u8>,
+    pieces: Vec<usize>,
 }
 
 impl Talk {
     fn new(load: &[Load]) -> Talk {
-        let (mut calls, mut stream) = (Vec::new(), Vec::new());
+        let (mut calls, mut stream, mut pieces) = (Vec::new(), Vec::new(), Vec::new());
         let mut out = [0; 2 * LENT];
         for one in load {
             let reply = one.reply();
             calls.push((reply.call, reply.out_length));
             let length = reply.write(&mut out).unwrap();
+            let before = stream.len();
             // Nothing is read for a call that is complete when begun.
             if length > 0 {
                 stream.extend_from_slice(one.action);
             }
             stream.extend_from_slice(&out[..length]);
+            pieces.push(stream.len() - before);
         }
-        Talk { calls, stream }
+        Talk {
+            calls,
+            stream,
+            pieces,
+        }
     }
 
-    /// ns a raw byte, and a checksum of all answers. `one` begins a call and runs
+    /// A checksum of all answers. `one` begins a call and runs
     /// to the end of its reply: the reply's length, the bytes used, the notes
     /// made, or nothing where the call is complete.
     fn read(
         &self,
+        lent: &mut Lent,
         mut one: impl FnMut((u8, u8), &[u8], &mut Lent) -> Option<[usize; 3]>,
-    ) -> (f64, u64) {
+    ) -> u64 {
         let mut checksum = 0;
-        let mut lent = Lent {
-            reply: [0; LENT],
-            own: [0; LENT],
-            room: vec![0; NOTE * self.stream.len()],
-        };
-        let start = Instant::now();
         let mut rest = &self.stream[..];
         for &call in &self.calls {
-            let Some([length, used, noted]) = one(call, rest, &mut lent) else {
+            let Some([length, used, noted]) = one(call, rest, lent) else {
                 continue;
             };
             add(&mut checksum, (length as u64) << 16 | used as u64);
@@ -191,10 +158,7 @@ impl Talk {
             rest = &rest[used..];
         }
         assert!(rest.is_empty());
-        (
-            start.elapsed().as_nanos() as f64 / self.stream.len() as f64,
-            checksum,
-        )
+        checksum
     }
 }
 
@@ -204,9 +168,19 @@ struct Lent {
     room: Vec<u8>,
 }
 
-fn read_library(talk: &Talk) -> (f64, u64) {
+impl Lent {
+    fn new(talk: &Talk) -> Lent {
+        Lent {
+            reply: [0; LENT],
+            own: [0; LENT],
+            room: vec![0; NOTE * talk.stream.len()],
+        }
+    }
+}
+
+fn read_library(talk: &Talk, lent: &mut Lent) -> u64 {
     let mut link = unsafe { tube_link() };
-    talk.read(|(call, out_length), rest, lent| unsafe {
+    talk.read(lent, |(call, out_length), rest, lent| unsafe {
         let begun = tube_begin(link, call, out_length);
         if begun.kind == 1 {
             return None;
@@ -237,9 +211,9 @@ fn rust_run(link: &mut Link, raw: &[u8], lent: &mut Lent) -> Ran {
     link.run(raw, &mut lent.reply, &mut lent.own, &mut lent.room)
 }
 
-fn read_rust(talk: &Talk) -> (f64, u64) {
+fn read_rust(talk: &Talk, lent: &mut Lent) -> u64 {
     let mut link = Link::new();
-    talk.read(|(call, out_length), rest, lent| {
+    talk.read(lent, |(call, out_length), rest, lent| {
         if rust_begin(&mut link, call, out_length) == Begun::Complete {
             return None;
         }
@@ -258,22 +232,19 @@ fn rust_write(reply: &Reply, out: &mut [u8]) -> Result<usize, u8> {
     reply.write(out)
 }
 
-/// ns a byte written, and a checksum of the lengths and the last bytes.
-fn write(load: &[Reply], mut one: impl FnMut(&Reply, &mut [u8]) -> usize) -> (f64, u64) {
+/// A checksum of the lengths and the last bytes.
+fn write(load: &[Reply], mut one: impl FnMut(&Reply, &mut [u8]) -> usize) -> u64 {
     let mut checksum = 0;
     let mut out = [0; 2 * LENT];
-    let mut written = 0;
-    let start = Instant::now();
     for reply in load {
         let length = one(reply, &mut out);
         let last = out[length.saturating_sub(1)];
         add(&mut checksum, (length as u64) << 8 | last as u64);
-        written += length;
     }
-    (start.elapsed().as_nanos() as f64 / written as f64, checksum)
+    checksum
 }
 
-fn write_library(load: &[Reply]) -> (f64, u64) {
+fn write_library(load: &[Reply]) -> u64 {
     write(load, |r, out| unsafe {
         let (block, text) = (r.block, r.text);
         let written = tube_write_reply(
@@ -296,54 +267,45 @@ fn write_library(load: &[Reply]) -> (f64, u64) {
     })
 }
 
-fn write_rust(load: &[Reply]) -> (f64, u64) {
+fn write_rust(load: &[Reply]) -> u64 {
     write(load, |r, out| rust_write(r, out).unwrap())
 }
 
-/// The best of several repetitions, both programs in turn; nothing where their
-/// checksums differ.
-fn best(library: impl Fn() -> (f64, u64), rust: impl Fn() -> (f64, u64)) -> Option<[f64; 2]> {
-    let mut best = [f64::INFINITY; 2];
-    for _ in 0..REPETITIONS {
-        let (l, r) = (library(), rust());
-        if l.1 != r.1 {
-            return None;
-        }
-        best = [best[0].min(l.0), best[1].min(r.0)];
+/// What the writers write: all replies one behind the other, and their lengths.
+fn encoded(load: &[Reply]) -> (Vec<u8>, Vec<usize>) {
+    let (mut bytes, mut pieces) = (Vec::new(), Vec::new());
+    let mut out = [0; 2 * LENT];
+    for reply in load {
+        let length = reply.write(&mut out).unwrap();
+        bytes.extend_from_slice(&out[..length]);
+        pieces.push(length);
     }
-    Some(best)
+    (bytes, pieces)
 }
 
-fn main() -> ExitCode {
+pub fn tables() -> Option<Vec<Table>> {
     let loads = [
-        ("replies, mixed", mixed()),
-        ("OSWORD, 255 bytes", long(OSWORD)),
-        ("OSWORD 0, 255 bytes", long(OSWORD_0)),
+        ("all kinds in turn, an action in eight", mixed()),
+        ("OSWORD, 255 bytes", alike(OSWORD)),
+        ("OSWORD 0, 255 bytes", alike(OSWORD_0)),
     ];
-    println!(
-        "{:<20}{:>14}{:>9}{:>15}{:>16}{:>9}{:>15}",
-        "ns a byte",
-        "read: library",
-        "Rust",
-        "library/Rust",
-        "write: library",
-        "Rust",
-        "library/Rust"
-    );
+    let mut read = Table::new("Replies read by the loop:", &BYTES);
+    let mut written = Table::new("Replies written:", &BYTES);
     for (name, load) in &loads {
         let talk = Talk::new(load);
+        let (mut one, mut two) = (Lent::new(&talk), Lent::new(&talk));
+        let times = best([&mut || read_library(&talk, &mut one), &mut || {
+            read_rust(&talk, &mut two)
+        }])?;
+        let copy = copying(&talk.stream, &talk.pieces);
+        read.bytes_row(name, talk.stream.len(), times, copy);
+
         let replies: Vec<Reply> = load.iter().map(Load::reply).collect();
-        let read = best(|| read_library(&talk), || read_rust(&talk));
-        let written = best(|| write_library(&replies), || write_rust(&replies));
-        let (Some([rl, rr]), Some([wl, wr])) = (read, written) else {
-            println!("FAILED {name}: answers differ");
-            return ExitCode::FAILURE;
-        };
-        println!(
-            "{name:<20}{rl:>14.2}{rr:>9.2}{:>15.2}{wl:>16.2}{wr:>9.2}{:>15.2}",
-            rl / rr,
-            wl / wr
-        );
+        let times = best([&mut || write_library(&replies), &mut || {
+            write_rust(&replies)
+        }])?;
+        let (bytes, pieces) = encoded(&replies);
+        written.bytes_row(name, bytes.len(), times, copying(&bytes, &pieces));
     }
-    ExitCode::SUCCESS
+    Some(vec![read, written])
 }

@@ -1,16 +1,77 @@
-/* The Tube chip, the script player, the requests of both carriers, and the link with its replies, proved in Rattle. Link target/libtube.a (`./build` makes it).
+/* Yogrespa: the Tube chip, the script player, the requests of both carriers, and the link with its replies, proved in Rattle.
+ * Link target/libtube.a (`./build` makes it). docs/GUIDE.md says what to call when; examples/ has whole programs.
  *
- * Every function is total: any side, offset, operation, byte and any bytes in a record are answered by number. The caller's own duty
- * is what C cannot say: a pointer points to a whole record or to as many bytes as its length says, no pointer is null (an empty
- * buffer has length 0 and any valid pointer), and buffers lent to one call do not overlap. */
+ * Every function is total: any side, offset, operation, byte, number and any bytes in a record are answered by number. All state is in
+ * records and buffers of the caller; nothing is kept between calls and nothing is allocated, so different records may be used by
+ * different threads.
+ *
+ * What the caller owes, here and nowhere else, is what C cannot say of a pointer:
+ *   - it is not null and valid for the whole call; an empty buffer has length 0 and any valid pointer;
+ *   - it points to a whole record, to as many bytes as the length behind it says, or to the whole array that its declaration names
+ *     (TUBE_BODY, TUBE_REPLY_LENGTH, TUBE_OWN_LENGTH);
+ *   - what is lent for writing overlaps nothing else that is lent to the same call.
+ *
+ * Hexadecimal is written &, as the machines do. */
 #ifndef TUBE_H
 #define TUBE_H
 #include <stddef.h>
 #include <stdint.h>
 
-/* Channels are numbered register by register, host-to-parasite first: 0 is host-to-parasite R1, 1 parasite-to-host R1, .., 7
- * parasite-to-host R4. The bytes of channel c start at tube_start[c] of `bytes`, oldest first, and held[c] counts them. The flags
- * P V M J I Q are bits 5 to 0 of `flags`; its bits 7 and 6, and bytes that are not held, stand for nothing. */
+#ifdef __cplusplus
+extern "C" {
+#endif
+
+/* ---- The numbered answers ---- */
+
+enum {
+    TUBE_DONE = 0,           /* done */
+    TUBE_MISSING = 1,        /* no such side or offset, or a chip record that holds more than its capacities: chip unchanged, byte 0 */
+    TUBE_NO_ROOM = 2,        /* data write to a channel without room: chip unchanged, byte 0 */
+    TUBE_EMPTY = 3,          /* data read of an empty channel: chip unchanged, byte 0 */
+    TUBE_UNKNOWN_CODE = 4,   /* a mark or a request code that is not carried: the reader or link is stopped */
+    TUBE_MARK_INSIDE = 5,    /* a mark inside a request, or inside an action's own bytes: the reader or link is stopped */
+    TUBE_STRING_LONG = 6,    /* a string or an error's text over 255 bytes: the reader or link is stopped; a writer's buffer untouched */
+    TUBE_STOPPED = 7,        /* a byte given to, or a call begun on, a stopped reader or link: the record is given back as it was */
+    TUBE_BUFFER_SHORT = 8,   /* a lent buffer is too short: no byte of it was touched, nothing was played, no raw byte used */
+    TUBE_BAD_FIELD = 9,      /* a field breaks its rule: the reader is stopped; a writer's buffer untouched */
+    TUBE_LIMIT_REACHED = 10, /* the play limit is reached and script bytes remain: the chip as after the last played record */
+    TUBE_CUT_SHORT = 11,     /* the script ends inside a record: the same */
+    TUBE_CALL_WAITS = 12     /* a call begun while another waits: the link is given back as it was */
+};
+
+/* ---- The chip ---- */
+
+enum { TUBE_HOST = 0, TUBE_PARASITE = 1 };  /* sides */
+enum { TUBE_READ = 0, TUBE_WRITE = 1 };     /* operations; any number but 0 writes */
+
+/* Offsets, the same on both sides: the host's from &FEE0 on, the parasite's from &FEF8 on. */
+enum {
+    TUBE_R1_STATUS = 0, TUBE_R1_DATA = 1, TUBE_R2_STATUS = 2, TUBE_R2_DATA = 3,
+    TUBE_R3_STATUS = 4, TUBE_R3_DATA = 5, TUBE_R4_STATUS = 6, TUBE_R4_DATA = 7
+};
+
+/* Status bits: a byte can be read; a byte written would be taken. */
+enum { TUBE_AVAILABLE = 0x80, TUBE_NOT_FULL = 0x40 };
+
+/* The flags, in the R1 status of both sides and in control, a host write to TUBE_R1_STATUS. With TUBE_SET control sets the flags whose
+ * bits it has, without it clears them; with TUBE_SET and TUBE_CLEAR it then empties all channels. */
+enum {
+    TUBE_FLAG_P = 0x20, /* asserts the parasite's reset line */
+    TUBE_FLAG_V = 0x10, /* two bytes at a time in R3 */
+    TUBE_FLAG_M = 0x08, /* R3 asserts the parasite's NMI */
+    TUBE_FLAG_J = 0x04, /* R4 asserts the parasite's IRQ */
+    TUBE_FLAG_I = 0x02, /* R1 asserts the parasite's IRQ */
+    TUBE_FLAG_Q = 0x01, /* R4 asserts the host's IRQ */
+    TUBE_SET = 0x80,
+    TUBE_CLEAR = 0x40
+};
+
+/* The lines; a line value is the sum of those that are asserted. */
+enum { TUBE_HOST_IRQ = 1, TUBE_PARASITE_IRQ = 2, TUBE_PARASITE_NMI = 4, TUBE_PARASITE_RESET = 8 };
+
+/* A chip record. Channels are numbered register by register, host-to-parasite first: 0 is host-to-parasite R1, 1 parasite-to-host R1, ..,
+ * 7 parasite-to-host R4. The bytes of channel c start at tube_start[c] of `bytes`, oldest first, and held[c] counts them; it must not be
+ * above tube_capacity[c]. The flags P V M J I Q are bits 5 to 0 of `flags`; its bits 7 and 6, and bytes that are not held, stand for nothing. */
 typedef struct {
     uint8_t bytes[24];
     uint8_t held[8];
@@ -20,58 +81,92 @@ typedef struct {
 static const uint8_t tube_start[8] = {0, 9, 1, 2, 3, 5, 7, 8};
 static const uint8_t tube_capacity[8] = {1, 10, 1, 1, 2, 2, 1, 1};
 
-enum { TUBE_HOST = 0, TUBE_PARASITE = 1 };
-enum { TUBE_READ = 0, TUBE_WRITE = 1 }; /* any number but 0 writes */
-enum {
-    TUBE_DONE = 0,
-    TUBE_MISSING = 1,       /* no such side or offset, or a record that holds more than its capacities */
-    TUBE_NO_ROOM = 2,       /* data write to a channel without room */
-    TUBE_EMPTY = 3,         /* data read of an empty channel */
-    TUBE_UNKNOWN_CODE = 4,
-    TUBE_MARK_INSIDE = 5,   /* a mark that cannot stand where it came */
-    TUBE_STRING_LONG = 6,   /* a string over 255 bytes */
-    TUBE_STOPPED = 7,       /* the reader or the link was stopped by an earlier refusal */
-    TUBE_BUFFER_SHORT = 8,  /* a lent buffer is too short: no byte of it was touched, nothing was played */
-    TUBE_BAD_FIELD = 9,
-    TUBE_LIMIT_REACHED = 10,
-    TUBE_CUT_SHORT = 11,    /* a script that ends inside a record */
-    TUBE_CALL_WAITS = 12    /* a call begun while another waits */
-};
-
 typedef struct {
-    uint8_t answer;
-    uint8_t byte; /* 0 unless a read was done */
+    uint8_t answer; /* 0 to 3 */
+    uint8_t byte;   /* 0 unless a read was done */
 } TubeReply;
 
-/* One access to the chip lent. On every answer but 0 the chip is unchanged. */
+/* One access to the chip lent. On every answer but 0 the chip is unchanged. A read ignores `byte`. */
 TubeReply tube_access(TubeChip *chip, uint8_t side, uint8_t offset, uint8_t operation, uint8_t byte);
 
-/* A fresh chip; a reset of any record gives the same. */
+/* A fresh chip; a reset of any record, also of one that holds more than its capacities, gives the same. */
 TubeChip tube_new(void);
 TubeChip tube_reset(TubeChip chip);
 
-/* The line value: host IRQ 1, parasite IRQ 2, parasite NMI 4, parasite reset 8; 0 for a record that holds more than its capacities. */
+/* The line value; 0 for a record that holds more than its capacities. */
 uint8_t tube_lines(TubeChip chip);
 
+/* ---- Scripts ---- */
+
+/* The kinds of a script's records; any other kind is answered TUBE_MISSING. */
+enum { TUBE_HOST_READ = 0, TUBE_HOST_WRITE = 1, TUBE_PARASITE_READ = 2, TUBE_PARASITE_WRITE = 3, TUBE_RESET = 4 };
+
+enum {
+    TUBE_RECORD = 3, /* the bytes of a script's record: kind, offset, byte */
+    TUBE_RESULT = 3  /* the bytes of its result: answer, byte, line value */
+};
+
 typedef struct {
-    size_t played;
-    uint8_t answer;
-    TubeChip chip;
+    size_t played;  /* the records played, refused ones too: the smaller of the limit and the whole records present */
+    uint8_t answer; /* 0, TUBE_BUFFER_SHORT, TUBE_LIMIT_REACHED or TUBE_CUT_SHORT */
+    TubeChip chip;  /* as after the last played record */
 } TubePlayed;
 
-/* Plays at most `limit` records of three bytes (kind, offset, byte); three result bytes (answer, byte, line value) for each go
- * into `results`. */
+/* Plays at most `limit` records; a result for each goes into `results`, from its start, and the bytes beyond stay. Where they do not all fit,
+ * TUBE_BUFFER_SHORT: nothing is played, the chip is the one given. */
 TubePlayed tube_play(TubeChip chip, const uint8_t *script, size_t script_length, size_t limit, uint8_t *results, size_t results_length);
 
-/* The text of `played` results and the last line, written into `out`: its length, or 0 with nothing written where it does not fit. */
+/* The text of `played` results and the last line, written into the start of `out`: its length. 0, with nothing written, where it does not fit or
+ * `results` has fewer than `played` results. */
 size_t tube_text(const uint8_t *results, size_t results_length, size_t played, uint8_t answer, uint8_t *out, size_t out_length);
 
-enum { TUBE_SERIAL = 0, TUBE_PARALLEL = 1 };
-enum { TUBE_OUTSIDE = 0, TUBE_INSIDE = 1, TUBE_STOPPED_PHASE = 2 };
-enum { TUBE_BODY = 273 }; /* the longest body of a request */
+/* ---- Requests, outward ---- */
 
-/* A request reader. An escape was seen where `escape` is not 0. A record with a number out of range, or one that exceeds its limits,
- * counts as stopped. */
+enum { TUBE_SERIAL = 0, TUBE_PARALLEL = 1 };                                /* carriers */
+enum { TUBE_OUTSIDE = 0, TUBE_INSIDE = 1, TUBE_STOPPED_PHASE = 2 };         /* phases of a reader, seen from a request */
+enum { TUBE_NEED_MORE = 0, TUBE_CHARACTER = 1, TUBE_REQUEST = 2, TUBE_REFUSED = 3 }; /* kinds of a reader's answers */
+enum { TUBE_ESCAPE_BYTE = 0x9B };
+enum { TUBE_STRING_LIMIT = 255 };
+enum { TUBE_BODY = 273 }; /* the longest body of a request, and the bytes lent for it */
+
+/* The codes of requests, with their bodies in order. A string ends with &0D; blocks go high byte first. */
+enum {
+    TUBE_CODE_OSRDCH = 0x00,      /* none */
+    TUBE_CODE_OSCLI = 0x02,       /* string */
+    TUBE_CODE_OSBYTE_LOW = 0x04,  /* X A, A below &80 */
+    TUBE_CODE_OSBYTE_HIGH = 0x06, /* X Y A, A from &80 on */
+    TUBE_CODE_OSWORD = 0x08,      /* A that is not 0, in length, that many bytes, out length */
+    TUBE_CODE_OSWORD0 = 0x0A,     /* 5 bytes */
+    TUBE_CODE_OSARGS = 0x0C,      /* Y, 4 bytes, A */
+    TUBE_CODE_OSBGET = 0x0E,      /* Y */
+    TUBE_CODE_OSBPUT = 0x10,      /* Y A */
+    TUBE_CODE_OSFIND = 0x12,      /* 0 Y closes; A that is not 0 and a string opens */
+    TUBE_CODE_OSFILE = 0x14,      /* 16 bytes, string, A */
+    TUBE_CODE_OSGBPB = 0x16       /* 13 bytes, A */
+};
+
+/* The calls. OSFIND is two of them. */
+typedef enum {
+    TUBE_OSRDCH = 0, /* OSRDCHIO */
+    TUBE_OSCLI = 1,
+    TUBE_OSBYTE_LOW = 2,
+    TUBE_OSBYTE_HIGH = 3,
+    TUBE_OSWORD = 4,
+    TUBE_OSWORD0 = 5,
+    TUBE_OSARGS = 6,
+    TUBE_OSBGET = 7,
+    TUBE_OSBPUT = 8,
+    TUBE_OSFIND_CLOSE = 9,
+    TUBE_OSFIND_OPEN = 10,
+    TUBE_OSFILE = 11,
+    TUBE_OSGBPB = 12
+} TubeCall;
+
+enum { TUBE_CALLS = 13 }; /* how many there are */
+
+/* A request reader. An escape was seen where `escape` is not 0. A record with a number out of range, or one that exceeds its limits
+ * (inside a request: a style above 3, or above 0 on the parallel side; a code without a body; a count not below its longest body), counts
+ * as stopped. */
 typedef struct {
     size_t count; /* bytes of the body so far */
     uint8_t carrier;
@@ -81,12 +176,13 @@ typedef struct {
     uint8_t code;
 } TubeReader;
 
-enum { TUBE_NEED_MORE = 0, TUBE_CHARACTER = 1, TUBE_REQUEST = 2, TUBE_REFUSED = 3 };
-
-/* What a raw byte gives. `value` is a character's byte or a refusal's number; a request has its style, its code, and its body in the
- * first `length` bytes of the lent body. */
+/* What a raw byte gives, by its kind; what the kind does not name is 0.
+ *   need-more
+ *   character   value (OSWRCH)
+ *   request     style (0 to 3), code, and its body in the first `length` bytes of the lent body
+ *   refused     value is the answer's number: 4, 5, 6 or 9, and the reader is stopped, or 7 */
 typedef struct {
-    TubeReader reader;
+    TubeReader reader; /* for the next byte */
     size_t length;
     uint8_t kind;
     uint8_t value;
@@ -94,10 +190,11 @@ typedef struct {
     uint8_t code;
 } TubeRead;
 
-/* A fresh reader; it is also what resets a stopped one. */
+/* A fresh reader; it is also what resets a stopped one. One of a carrier that does not exist counts as stopped. */
 TubeReader tube_reader(uint8_t carrier);
 
-/* One raw byte. The bytes of the body so far stand in the lent body, which the caller keeps from call to call. */
+/* One raw byte. The bytes of the body so far stand in the lent body, which the caller keeps from call to call; body[count] changes where the
+ * byte is taken into it, and no other. A finished body stands there until the next one's first byte. */
 TubeRead tube_read(TubeReader reader, uint8_t raw, uint8_t body[TUBE_BODY]);
 
 /* What a slice of raw bytes gives. */
@@ -110,29 +207,42 @@ typedef struct {
  * once. An empty slice needs more and gives the record back. */
 TubeFed tube_feed(TubeReader reader, const uint8_t *raw, size_t raw_length, uint8_t body[TUBE_BODY]);
 
-typedef enum {
-    TUBE_OSRDCH, TUBE_OSCLI, TUBE_OSBYTE_LOW, TUBE_OSBYTE_HIGH, TUBE_OSWORD, TUBE_OSWORD0, TUBE_OSARGS, TUBE_OSBGET, TUBE_OSBPUT,
-    TUBE_OSFIND_CLOSE, TUBE_OSFIND_OPEN, TUBE_OSFILE, TUBE_OSGBPB
-} TubeCall;
-
 typedef struct {
-    size_t length; /* the encoding's, where it was written */
-    uint8_t answer;
+    size_t length;  /* of the encoding, where it was written, else 0 */
+    uint8_t answer; /* 0, TUBE_STRING_LONG, TUBE_BAD_FIELD or TUBE_BUFFER_SHORT, the first that applies */
 } TubeWritten;
 
 /* Writes a request into the start of `out`; the bytes beyond it stay, and a refused writer has touched none. A number that the call
- * does not have is not read. `block` is OSWORD's in block or the call's block, high byte first; `text` is its string without &0D. */
+ * does not have is not read. `block` is OSWORD's in block or the call's block, high byte first; `text` is its string without &0D.
+ * TUBE_BAD_FIELD: no such carrier, style or call, an A that the call does not allow, a block that is not as long as the call's, a &0D in the
+ * string, a block or string for a call that has none. */
 TubeWritten tube_write_request(uint8_t carrier, uint8_t style, uint8_t call, uint8_t x, uint8_t y, uint8_t a, uint8_t out_length,
                                const uint8_t *block, size_t block_length, const uint8_t *text, size_t text_length,
                                uint8_t *out, size_t room);
 
-/* The client's end of the serial lead. */
-enum { TUBE_LENT = 257 }; /* the longest reply, and the most bytes that an action has of its own */
-enum { TUBE_NOTE = 5 };   /* the bytes of a note */
-enum { TUBE_NO_ACTION = 0, TUBE_IN_ERROR = 1, TUBE_IN_EVENT = 2, TUBE_IN_ADDRESS = 3 };
+typedef struct {
+    uint8_t call;
+    uint8_t out_length; /* OSWORD's, else 0 */
+} TubeKind;
+
+/* The call of a finished request, by its code and body, as tube_begin, tube_write_reply and tube_read_reply take it. It tells nothing of
+ * a code that no request has, or of a body that is not finished. */
+TubeKind tube_kind_of(uint8_t code, const uint8_t *body, size_t length);
+
+/* ---- Replies and actions, inward: the client's end of the serial lead ---- */
+
+enum {
+    TUBE_REPLY_LENGTH = 257, /* the longest reply, and the bytes lent for it */
+    TUBE_OWN_LENGTH = 257,   /* the most bytes that an action has of its own, and the bytes lent for them */
+    TUBE_LENT = 257,         /* either */
+    TUBE_NOTE = 5            /* the bytes of a note */
+};
+
+enum { TUBE_NO_ACTION = 0, TUBE_IN_ERROR = 1, TUBE_IN_EVENT = 2, TUBE_IN_ADDRESS = 3 }; /* the open action */
 
 /* A link. An escape was seen, and the link is stopped, where the number is not 0. A record with `wait` above 13 or `action` above 3, or one
- * that exceeds its limits, counts as stopped. */
+ * that exceeds its limits (as many bytes of the reply, or of the open action, as there can be; bytes of either where there is none), counts as
+ * stopped. */
 typedef struct {
     size_t got;         /* bytes of the reply so far */
     size_t held;        /* bytes of the open action so far */
@@ -143,6 +253,7 @@ typedef struct {
     uint8_t stopped;
 } TubeLink;
 
+/* Kinds of a link's answers. Those from TUBE_TOLD_CHARACTER to TUBE_TOLD_ADDRESS are also the kinds of notes. */
 enum {
     TUBE_TOLD_MORE = 0,
     TUBE_TOLD_CHARACTER = 1,
@@ -163,9 +274,9 @@ enum {
  *   reply       the first `length` bytes of the lent reply; read its fields by tube_read_reply
  *   error       first is its number, its text the `length` bytes of the other lent bytes from the second on; the call that waited is over
  *   restart     the call that waited is over
- *   refused     first is the answer's number; the link is stopped */
+ *   refused     first is the answer's number: 4, 5 or 6, and the link is stopped, or 7; from tube_run also 8, and the link is as it was */
 typedef struct {
-    TubeLink link;
+    TubeLink link; /* for the next byte */
     size_t length;
     uint8_t kind;
     uint8_t first;
@@ -177,20 +288,21 @@ typedef struct {
 /* A fresh link; it is also what resets a stopped one. */
 TubeLink tube_link(void);
 
-enum { TUBE_BEGUN = 0, TUBE_COMPLETE = 1, TUBE_DENIED = 2 };
+enum { TUBE_BEGUN = 0, TUBE_COMPLETE = 1, TUBE_DENIED = 2 }; /* kinds of a begun call */
 
 typedef struct {
     TubeLink link;
     uint8_t kind;   /* the call waits; or it is complete, since its reply has no byte; or it is denied */
-    uint8_t answer; /* of a denied call, else 0 */
+    uint8_t answer; /* of a denied call TUBE_STOPPED or TUBE_CALL_WAITS, else 0 */
 } TubeBegun;
 
 /* Begins a call, so that the data bytes that follow are its reply. The link is the one given unless the call waits. `out_length` is read for
  * OSWORD only. A number that is no call is answered as by a stopped link. */
 TubeBegun tube_begin(TubeLink link, uint8_t call, uint8_t out_length);
 
-/* One raw byte. The reply so far and the open action's own bytes stand in the two lent buffers, which the caller keeps from call to call. */
-TubeTold tube_link_step(TubeLink link, uint8_t raw, uint8_t reply[TUBE_LENT], uint8_t own[TUBE_LENT]);
+/* One raw byte. The reply so far and the open action's own bytes stand in the two lent buffers, which the caller keeps from call to call;
+ * reply[got] or own[held] changes where the byte is taken into it, and no other. */
+TubeTold tube_link_step(TubeLink link, uint8_t raw, uint8_t reply[TUBE_REPLY_LENGTH], uint8_t own[TUBE_OWN_LENGTH]);
 
 typedef struct {
     TubeTold told; /* where it ended: a reply, an error, a restart or a refusal, or need-more where the slice ended first */
@@ -202,25 +314,27 @@ typedef struct {
  * address on the way leaves a note in `room`, one behind the other: TUBE_NOTE bytes, which are kind, first, second, third and fourth as a
  * TubeTold has them. The room is for a note a raw byte: where it is shorter than TUBE_NOTE * raw_length the answer is TUBE_BUFFER_SHORT, no
  * byte is used and nothing changes, the link too. */
-TubeRan tube_run(TubeLink link, const uint8_t *raw, size_t raw_length, uint8_t reply[TUBE_LENT], uint8_t own[TUBE_LENT], uint8_t *room, size_t room_length);
+TubeRan tube_run(TubeLink link, const uint8_t *raw, size_t raw_length, uint8_t reply[TUBE_REPLY_LENGTH], uint8_t own[TUBE_OWN_LENGTH], uint8_t *room,
+                 size_t room_length);
 
 /* The replies, with the numbers that each has; a carry is set where its number is not 0. */
 typedef enum {
-    TUBE_REPLY_CARRY_A,      /* OSRDCH, OSBGET: carry, a */
-    TUBE_REPLY_ACK,          /* OSCLI: carry */
-    TUBE_REPLY_BYTE,         /* OSBYTE low, opening OSFIND: a */
-    TUBE_REPLY_CARRY_YX,     /* OSBYTE high: carry, y, x */
-    TUBE_REPLY_BLOCK,        /* OSWORD: block */
-    TUBE_REPLY_ESCAPED_LINE, /* OSWORD 0, escaped */
-    TUBE_REPLY_READ_LINE,    /* OSWORD 0: text */
-    TUBE_REPLY_A_BLOCK,      /* OSARGS, OSFILE: a, block */
-    TUBE_REPLY_PLAIN,        /* OSBPUT, closing OSFIND */
-    TUBE_REPLY_BLOCK_CARRY_A, /* OSGBPB: block, carry, a */
-    TUBE_REPLY_NONE          /* read for a number that is no call */
+    TUBE_REPLY_CARRY_A = 0,       /* OSRDCH, OSBGET: carry, a */
+    TUBE_REPLY_ACK = 1,           /* OSCLI: carry */
+    TUBE_REPLY_BYTE = 2,          /* OSBYTE low (its X), opening OSFIND (its A): a */
+    TUBE_REPLY_CARRY_YX = 3,      /* OSBYTE high: carry, y, x */
+    TUBE_REPLY_BLOCK = 4,         /* OSWORD: block */
+    TUBE_REPLY_ESCAPED_LINE = 5,  /* OSWORD 0, escaped */
+    TUBE_REPLY_READ_LINE = 6,     /* OSWORD 0: text */
+    TUBE_REPLY_A_BLOCK = 7,       /* OSARGS (4 bytes), OSFILE (16 bytes): a, block */
+    TUBE_REPLY_PLAIN = 8,         /* OSBPUT, closing OSFIND */
+    TUBE_REPLY_BLOCK_CARRY_A = 9, /* OSGBPB (13 bytes): block, carry, a */
+    TUBE_REPLY_NONE = 10          /* read for a number that is no call; never written */
 } TubeReplyForm;
 
 /* Writes the reply to a call into the start of `out`; the bytes beyond it stay, and a refused writer has touched none. A number that the reply
- * does not have is not read. `block` is high byte first; `text` is the line without &0D. */
+ * does not have is not read. `block` is high byte first; `text` is the line without &0D. TUBE_BAD_FIELD: no such call, a reply that does not
+ * fit it, a block that is not as long as the reply's (of OSWORD: `out_length`), a &0D in the line, a block or line for a reply that has none. */
 TubeWritten tube_write_reply(uint8_t call, uint8_t out_length, uint8_t reply, uint8_t carry, uint8_t x, uint8_t y, uint8_t a,
                              const uint8_t *block, size_t block_length, const uint8_t *text, size_t text_length,
                              uint8_t *out, size_t room);
@@ -231,7 +345,7 @@ typedef struct {
     size_t block_length;
     size_t text_start;
     size_t text_length;
-    uint8_t reply;
+    uint8_t reply; /* TubeReplyForm */
     uint8_t carry;
     uint8_t x;
     uint8_t y;
@@ -241,12 +355,8 @@ typedef struct {
 /* The fields of the data bytes of a finished reply to a call. A byte that is not there counts as 0. */
 TubeGiven tube_read_reply(uint8_t call, uint8_t out_length, const uint8_t *bytes, size_t length);
 
-typedef struct {
-    uint8_t call;
-    uint8_t out_length; /* OSWORD's, else 0 */
-} TubeKind;
-
-/* The call of a finished request, by its code and body, as tube_begin, tube_write_reply and tube_read_reply take it. */
-TubeKind tube_kind_of(uint8_t code, const uint8_t *body, size_t length);
+#ifdef __cplusplus
+}
+#endif
 
 #endif

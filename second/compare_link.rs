@@ -1,31 +1,17 @@
-//! Compares the proved library's link with the second program: the same streams,
-//! begun calls, pieces of streams and single bytes go to both, and everything
-//! they give is compared. Prints one line for each property, then `N passed, M
-//! failed`.
+//! The link: the same streams, begun calls, pieces of streams and single bytes go to
+//! the library and to the second program, and everything they give is compared.
 
-use std::process::ExitCode;
-
-#[path = "inputs.rs"]
-mod inputs;
-
-// The link and its loop are compared here, not the replies' fields.
-#[allow(dead_code)]
-#[path = "interface.rs"]
-mod interface;
-
-#[allow(dead_code)]
-#[path = "link.rs"]
-mod link;
-
-use inputs::{Laden, Random, Report, Row, difference, escaped, every, most};
-use interface::{
-    NEED_MORE, REFUSED, REPLY, RESTART, TubeLink, TubeRan, TubeTold, tube_begin, tube_link,
+use crate::inputs::{Laden, escaped, most};
+use crate::interface::{
+    self, NEED_MORE, REFUSED, REPLY, RESTART, TubeLink, TubeRan, TubeTold, tube_begin, tube_link,
     tube_link_step, tube_run,
 };
-use link::{
+use crate::link::{
     ADDRESS, Begun, CALLS, ERROR, EVENT, LENT, Link, NO_ACTION, NOTE, OSRDCH, OSWORD, OSWORD_0,
     Told, WAIT_BLOCK,
 };
+use crate::random::Random;
+use crate::report::{Report, Row, difference, every};
 
 impl TubeLink {
     fn from_second(link: &Link) -> TubeLink {
@@ -219,8 +205,6 @@ const PROPERTIES: [Row<Property>; 54] = [
     (Property::InputNumbers, "inputs: each escape and stopped number", 1),
     (Property::InputRuns, "inputs: each start and end of a run", 1),
 ];
-
-type Compared = Report<Property>;
 
 /// The properties that one compared byte or begun call counts for.
 struct Group {
@@ -547,7 +531,7 @@ impl Seen {
         self.long_runs[1] += (notes.len() > 65_536 * NOTE) as u64;
     }
 
-    fn report(&self, report: &mut Compared) {
+    fn report(&self, report: &mut Report) {
         report.need(Property::InputReplies, self.few_replies());
         report.need(Property::InputActions, self.few_actions());
         report.need(Property::InputRefusals, self.few_refusals());
@@ -725,7 +709,7 @@ fn compare_byte(
     pair: &mut Pair,
     raw: u8,
     group: &Group,
-    report: &mut Compared,
+    report: &mut Report,
     what: &dyn Fn() -> String,
 ) -> (Told, bool) {
     let (record, link) = (pair.record, pair.link);
@@ -757,10 +741,7 @@ fn compare_byte(
             };
             (group.refused, after == stopped)
         }
-        _ => (
-            group.record,
-            after.shows(&pair.link, record.out_length),
-        ),
+        _ => (group.record, after.shows(&pair.link, record.out_length)),
     };
     check(property, good, &|| {
         format!("{after:?}, second program {:?}", pair.link)
@@ -780,7 +761,7 @@ fn compare_begin(
     pair: &mut Pair,
     (call, out_length): (u8, u8),
     group: &Group,
-    report: &mut Compared,
+    report: &mut Report,
     what: &dyn Fn() -> String,
 ) -> (Begun, bool) {
     let record = pair.record;
@@ -848,7 +829,7 @@ fn compare_run(
     pair: &mut Pair,
     raw: &[u8],
     seen: &mut Seen,
-    report: &mut Compared,
+    report: &mut Report,
     what: &dyn Fn() -> String,
 ) -> usize {
     if !raw.is_empty() && random.one_in(4) {
@@ -943,7 +924,7 @@ fn compare_short(
     pair: &Pair,
     raw: &[u8],
     seen: &mut Seen,
-    report: &mut Compared,
+    report: &mut Report,
     what: &dyn Fn() -> String,
 ) {
     let whole = NOTE * raw.len();
@@ -1141,7 +1122,7 @@ fn compare_stream(
     events: &[Event],
     name: &str,
     seen: &mut Seen,
-    report: &mut Compared,
+    report: &mut Report,
 ) {
     let mut pair = Pair::fresh(random);
     // The open error came while idle; the last event was a call inside a pair.
@@ -1188,7 +1169,7 @@ fn compare_pieces(
     events: &[Event],
     name: &str,
     seen: &mut Seen,
-    report: &mut Compared,
+    report: &mut Report,
 ) {
     let mut pair = Pair::fresh(random);
     let mut piece = Vec::new();
@@ -1223,7 +1204,7 @@ fn compare_piece(
     pair: &mut Pair,
     piece: &mut Vec<u8>,
     seen: &mut Seen,
-    report: &mut Compared,
+    report: &mut Report,
     what: &dyn Fn() -> String,
 ) {
     let mut rest = &piece[..];
@@ -1240,8 +1221,8 @@ fn compare_piece(
     piece.clear();
 }
 
-fn compare_streams(random: &mut Random, seen: &mut Seen, report: &mut Compared) {
-    for number in 0..STREAMS {
+fn compare_streams(random: &mut Random, count: u64, seen: &mut Seen, report: &mut Report) {
+    for number in 0..count {
         let (kind, mut events) = match number % 8 {
             0 | 1 => ("good", talk(random, false)),
             2 | 3 => ("broken", talk(random, true)),
@@ -1259,7 +1240,7 @@ fn compare_streams(random: &mut Random, seen: &mut Seen, report: &mut Compared) 
 
 /// Replies, lines and texts of every length with &9B at one place or at all;
 /// every mark in each state; every character.
-fn compare_each(random: &mut Random, seen: &mut Seen, report: &mut Compared) {
+fn compare_each(random: &mut Random, seen: &mut Seen, report: &mut Report) {
     let mut compare = |random: &mut Random, events: &[Event], name: &str| {
         compare_stream(random, events, name, seen, report);
         compare_pieces(random, events, name, seen, report);
@@ -1375,8 +1356,8 @@ impl Bench {
 }
 
 /// The library alone: actions between the bytes of a reply do not change it.
-fn compare_actions(random: &mut Random, report: &mut Compared) {
-    for number in 0..TALKS {
+fn compare_actions(random: &mut Random, count: u64, report: &mut Report) {
+    for number in 0..count {
         let laden = Laden::new(random);
         let arrays = Arrays::random(random);
         let what = || {
@@ -1395,7 +1376,7 @@ fn compare_laden(
     random: &mut Random,
     laden: &Laden,
     arrays: Arrays,
-    report: &mut Compared,
+    report: &mut Report,
     what: &dyn Fn() -> String,
 ) {
     let mut bare = Bench::new(arrays);
@@ -1446,7 +1427,7 @@ fn compare_ended(
     random: &mut Random,
     laden: &Laden,
     arrays: Arrays,
-    report: &mut Compared,
+    report: &mut Report,
     what: &dyn Fn() -> String,
 ) {
     let at = random.below(laden.plain.len());
@@ -1514,7 +1495,7 @@ impl Random {
     }
 
     /// A record within its limits and beyond.
-    fn record(&mut self) -> TubeLink {
+    fn link_record(&mut self) -> TubeLink {
         let wait = match self.below(24) {
             0 => self.at_least(WAITS as u8),
             1 => WAITS as u8,
@@ -1566,7 +1547,7 @@ impl Random {
         arrays
     }
 
-    fn raw(&mut self) -> u8 {
+    fn link_raw(&mut self) -> u8 {
         match self.below(4) {
             0 => self.byte(),
             1 => self.mark(),
@@ -1580,7 +1561,7 @@ fn compare_step(
     record: TubeLink,
     raw: u8,
     seen: &mut Seen,
-    report: &mut Compared,
+    report: &mut Report,
 ) {
     let mut pair = Pair::new(record, random.arrays());
     let before = pair.library;
@@ -1600,7 +1581,7 @@ fn compare_begun(
     record: TubeLink,
     kind: (u8, u8),
     seen: &mut Seen,
-    report: &mut Compared,
+    report: &mut Report,
 ) {
     let mut pair = Pair::new(record, Arrays::random(random));
     let before = pair.link;
@@ -1611,7 +1592,7 @@ fn compare_begun(
 
 /// Every call, action and count around the limits, with the bytes at which rules
 /// change.
-fn compare_counts(random: &mut Random, seen: &mut Seen, report: &mut Compared) {
+fn compare_counts(random: &mut Random, seen: &mut Seen, report: &mut Report) {
     const RAWS: [u8; 7] = [0x9B, 0x0D, 0x00, 0x7F, 0x80, 0x41, 0xA0];
     for (tag, count, at) in every(WAITS + 2, LENT + 4, 2 * RAWS.len()) {
         let escape = if at % 2 == 0 { 0 } else { random.at_least(1) };
@@ -1641,7 +1622,7 @@ fn compare_counts(random: &mut Random, seen: &mut Seen, report: &mut Compared) {
 }
 
 /// Errors of a few bytes in every call, so that many are restarts.
-fn compare_restarts(random: &mut Random, seen: &mut Seen, report: &mut Compared) {
+fn compare_restarts(random: &mut Random, seen: &mut Seen, report: &mut Report) {
     for (wait, held, _) in every(WAITS, 4, 1000) {
         let out_length = random.at_least(1);
         let record = TubeLink {
@@ -1659,7 +1640,7 @@ fn compare_restarts(random: &mut Random, seen: &mut Seen, report: &mut Compared)
 }
 
 /// Every byte in every state; every number of an escape and of a stop.
-fn compare_states(random: &mut Random, seen: &mut Seen, report: &mut Compared) {
+fn compare_states(random: &mut Random, seen: &mut Seen, report: &mut Report) {
     for (wait, action, at) in every(WAITS + 1, ACTIONS + 1, 512) {
         let out_length = random.at_least(1);
         let record = TubeLink {
@@ -1674,7 +1655,7 @@ fn compare_states(random: &mut Random, seen: &mut Seen, report: &mut Compared) {
         compare_step(random, record, at as u8, seen, report);
     }
     for (_, number, raw) in every(1, 256, 256) {
-        let mut record = random.record();
+        let mut record = random.link_record();
         record.escape = number as u8;
         compare_step(random, record, raw as u8, seen, report);
         record.stopped = number as u8;
@@ -1683,10 +1664,10 @@ fn compare_states(random: &mut Random, seen: &mut Seen, report: &mut Compared) {
 }
 
 /// Every call on every kind of record.
-fn compare_calls(random: &mut Random, seen: &mut Seen, report: &mut Compared) {
+fn compare_calls(random: &mut Random, seen: &mut Seen, report: &mut Report) {
     for (wait, action, call) in every(WAITS + 1, ACTIONS + 1, 256) {
         for at in 0..6 {
-            let mut record = random.record();
+            let mut record = random.link_record();
             (record.wait, record.action) = (wait as u8, action as u8);
             if at < 5 {
                 record.stopped = 0;
@@ -1701,8 +1682,12 @@ fn compare_calls(random: &mut Random, seen: &mut Seen, report: &mut Compared) {
             compare_begun(random, record, (call, out_length), seen, report);
         }
     }
-    for _ in 0..STEPS / 2 {
-        let record = random.record();
+}
+
+/// Calls, most of them good, on any record.
+fn compare_any_calls(random: &mut Random, count: u64, seen: &mut Seen, report: &mut Report) {
+    for _ in 0..count {
+        let record = random.link_record();
         let (call, out_length) = match random.below(8) {
             0 => (random.byte(), random.byte()),
             1 => (OSWORD, 0),
@@ -1713,25 +1698,24 @@ fn compare_calls(random: &mut Random, seen: &mut Seen, report: &mut Compared) {
     }
 }
 
-fn compare_steps(random: &mut Random, seen: &mut Seen, report: &mut Compared) {
+fn compare_fresh(report: &mut Report) {
     let fresh = unsafe { tube_link() };
     let expected = TubeLink::from_second(&Link::new());
     report.check(Property::Fresh, fresh == expected, || format!("{fresh:?}"));
-    compare_counts(random, seen, report);
-    compare_restarts(random, seen, report);
-    compare_states(random, seen, report);
-    for _ in 0..STEPS {
-        let record = random.record();
-        let raw = random.raw();
+}
+
+fn compare_steps(random: &mut Random, count: u64, seen: &mut Seen, report: &mut Report) {
+    for _ in 0..count {
+        let record = random.link_record();
+        let raw = random.link_raw();
         compare_step(random, record, raw, seen, report);
     }
-    compare_calls(random, seen, report);
 }
 
 /// Runs over a few bytes from any record.
-fn compare_runs(random: &mut Random, seen: &mut Seen, report: &mut Compared) {
-    for number in 0..STREAMS {
-        let record = random.record();
+fn compare_runs(random: &mut Random, count: u64, seen: &mut Seen, report: &mut Report) {
+    for number in 0..count {
+        let record = random.link_record();
         let mut pair = Pair::new(record, random.arrays());
         let length = match random.below(8) {
             0 => 0,
@@ -1741,16 +1725,18 @@ fn compare_runs(random: &mut Random, seen: &mut Seen, report: &mut Compared) {
         let mixture = random.below(3);
         let mut raw = random.bytes(mixture, length);
         if length > 0 && random.one_in(2) {
-            raw[0] = random.raw();
+            raw[0] = random.link_raw();
         }
         let what = || format!("run {number} from any record");
         compare_run(random, &mut pair, &raw, seen, report, &what);
     }
 }
 
+const LONG_RUNS: u64 = 2000;
+
 /// Runs with many notes: characters, and an action now and then.
-fn compare_long(random: &mut Random, seen: &mut Seen, report: &mut Compared) {
-    for number in 0..2000 {
+fn compare_long(random: &mut Random, count: u64, seen: &mut Seen, report: &mut Report) {
+    for number in 0..count {
         let length = match number % 100 {
             0 => 65_530 + random.below(5000),
             _ => 250 + random.below(1500),
@@ -1770,16 +1756,34 @@ fn compare_long(random: &mut Random, seen: &mut Seen, report: &mut Compared) {
     }
 }
 
-fn main() -> ExitCode {
-    let mut random = Random(0x0123_4567_89AB_CDEF);
-    let mut report = Report::new(&PROPERTIES);
+// ---- All of it ----
+
+pub fn report() -> Report {
+    Report::new(&PROPERTIES)
+}
+
+/// One input in `share` of each kind that is drawn at random.
+fn compare_random(random: &mut Random, share: u64, seen: &mut Seen, report: &mut Report) {
+    compare_fresh(report);
+    compare_streams(random, STREAMS / share, seen, report);
+    compare_actions(random, TALKS / share, report);
+    compare_steps(random, STEPS / share, seen, report);
+    compare_any_calls(random, STEPS / 2 / share, seen, report);
+    compare_runs(random, STREAMS / share, seen, report);
+    compare_long(random, LONG_RUNS / share, seen, report);
+}
+
+pub fn whole(random: &mut Random, report: &mut Report) {
     let mut seen = Seen::new();
-    compare_streams(&mut random, &mut seen, &mut report);
-    compare_each(&mut random, &mut seen, &mut report);
-    compare_actions(&mut random, &mut report);
-    compare_steps(&mut random, &mut seen, &mut report);
-    compare_runs(&mut random, &mut seen, &mut report);
-    compare_long(&mut random, &mut seen, &mut report);
-    seen.report(&mut report);
-    report.print()
+    compare_random(random, 1, &mut seen, report);
+    compare_each(random, &mut seen, report);
+    compare_counts(random, &mut seen, report);
+    compare_restarts(random, &mut seen, report);
+    compare_states(random, &mut seen, report);
+    compare_calls(random, &mut seen, report);
+    seen.report(report);
+}
+
+pub fn share(random: &mut Random, share: u64, report: &mut Report) {
+    compare_random(random, share, &mut Seen::new(), report);
 }

@@ -1,57 +1,16 @@
-//! Compares the proved library's request reader with the second program: the
-//! same streams, slices and single bytes go to both, and everything they give is
-//! compared. Prints one line for each property, then `N passed, M failed`.
+//! The request reader: the same streams, slices and single bytes go to the
+//! library and to the second program, and everything they give is compared.
 
-use std::process::ExitCode;
-
-// Only its reader is used here.
-#[allow(dead_code)]
-#[path = "serial.rs"]
-mod serial;
-
-use serial::{BODY, PARALLEL, Read, Reader, SERIAL};
+use crate::interface::{TubeFed, TubeRead, TubeReader, tube_feed, tube_read, tube_reader};
+use crate::link::serial::{BODY, PARALLEL, Read, Reader, SERIAL};
+use crate::random::Random;
+use crate::report::{Report, Row, difference, every};
 
 const OUTSIDE: u8 = 0;
 const INSIDE: u8 = 1;
 
 /// The longest body of each code, by half the code.
 const LONGEST: [usize; 12] = [0, 256, 2, 3, 258, 5, 6, 1, 2, 257, 273, 14];
-
-/// The library's record of a reader.
-#[repr(C)]
-#[derive(Clone, Copy, PartialEq, Debug)]
-struct TubeReader {
-    count: usize,
-    carrier: u8,
-    phase: u8,
-    escape: u8,
-    style: u8,
-    code: u8,
-}
-
-#[repr(C)]
-#[derive(Clone, Copy, Debug)]
-struct TubeRead {
-    reader: TubeReader,
-    length: usize,
-    kind: u8,
-    value: u8,
-    style: u8,
-    code: u8,
-}
-
-#[repr(C)]
-#[derive(Clone, Copy, Debug)]
-struct TubeFed {
-    read: TubeRead,
-    used: usize,
-}
-
-unsafe extern "C" {
-    fn tube_reader(carrier: u8) -> TubeReader;
-    fn tube_read(reader: TubeReader, raw: u8, body: *mut u8) -> TubeRead;
-    fn tube_feed(reader: TubeReader, raw: *const u8, length: usize, body: *mut u8) -> TubeFed;
-}
 
 impl TubeReader {
     fn from_second(reader: &Reader) -> TubeReader {
@@ -137,11 +96,14 @@ enum Property {
     InputSlices,
 }
 
-const COUNT: usize = 30;
+impl From<Property> for usize {
+    fn from(property: Property) -> usize {
+        property as usize
+    }
+}
 
-/// Each property with its name and the least number of inputs it needs.
 #[rustfmt::skip]
-const PROPERTIES: [(Property, &str, u64); COUNT] = [
+const PROPERTIES: [Row<Property>; 30] = [
     (Property::Fresh, "fresh reader", 256),
     (Property::StreamKind, "stream: kind of answer", 40 * STREAMS),
     (Property::StreamValue, "stream: character or refusal number", 40 * STREAMS),
@@ -173,39 +135,6 @@ const PROPERTIES: [(Property, &str, u64); COUNT] = [
     (Property::InputEscapeNumbers, "inputs: each escape number", 1),
     (Property::InputSlices, "inputs: each answer to slices whole, cut and from any record", 1),
 ];
-
-/// For each property the inputs compared and the first difference.
-struct Report([(u64, Option<String>); COUNT]);
-
-impl Report {
-    fn check(&mut self, property: Property, good: bool, difference: impl FnOnce() -> String) {
-        let (inputs, first) = &mut self.0[property as usize];
-        *inputs += 1;
-        if !good && first.is_none() {
-            *first = Some(difference());
-        }
-    }
-
-    /// Prints the report; true where every property holds.
-    fn print(mut self) -> bool {
-        let mut passed = 0;
-        for (property, name, least) in PROPERTIES {
-            let (inputs, first) = &mut self.0[property as usize];
-            if *inputs < least && first.is_none() {
-                *first = Some(format!("only {inputs} inputs, {least} needed"));
-            }
-            match first {
-                None => {
-                    passed += 1;
-                    println!("ok {name}");
-                }
-                Some(difference) => println!("FAILED {name}: {difference}"),
-            }
-        }
-        println!("{passed} passed, {} failed", PROPERTIES.len() - passed);
-        passed == PROPERTIES.len()
-    }
-}
 
 /// The properties that one compared byte counts for.
 struct Group {
@@ -246,84 +175,10 @@ const SLICE: Group = Group {
 
 // ---- Random inputs ----
 
-/// Xorshift: the same inputs in every run.
-struct Random(u64);
-
 impl Random {
-    fn next(&mut self) -> u64 {
-        self.0 ^= self.0 >> 12;
-        self.0 ^= self.0 << 25;
-        self.0 ^= self.0 >> 27;
-        self.0.wrapping_mul(0x2545_F491_4F6C_DD1D)
-    }
-
-    /// A number below `limit`.
-    fn below(&mut self, limit: usize) -> usize {
-        ((self.next() >> 32) as usize) % limit
-    }
-
-    fn one_in(&mut self, times: usize) -> bool {
-        self.below(times) == 0
-    }
-
-    fn byte(&mut self) -> u8 {
-        (self.next() >> 56) as u8
-    }
-
-    /// A byte from `low` to 255.
-    fn at_least(&mut self, low: u8) -> u8 {
-        low + self.below(256 - low as usize) as u8
-    }
-
-    fn fill(&mut self, bytes: &mut [u8]) {
-        for part in bytes.chunks_mut(8) {
-            part.copy_from_slice(&self.next().to_le_bytes()[..part.len()]);
-        }
-    }
-
-    /// A byte at which some rule changes.
-    fn edge(&mut self) -> u8 {
-        const EDGES: [u8; 16] = [
-            0x9B, 0x9B, 0x9B, 0x0D, 0x0D, 0x00, 0x00, 0x01, 0x7F, 0x80, 0xFF, 0x9A, 0x9C, 0x16,
-            0x18, 0x0C,
-        ];
-        EDGES[self.below(EDGES.len())]
-    }
-
-    /// A byte of one of four mixtures: any byte, edges among them, half of them
-    /// &9B, nothing but &9B.
-    fn mixed(&mut self, mixture: usize) -> u8 {
-        match mixture {
-            1 if self.one_in(3) => self.edge(),
-            2 if self.one_in(2) => 0x9B,
-            3 => 0x9B,
-            _ => self.byte(),
-        }
-    }
-
     /// A mark that starts a request on the serial carrier.
-    fn mark(&mut self) -> u8 {
+    fn request_mark(&mut self) -> u8 {
         ((self.below(4) << 5) + 2 * self.below(12)) as u8
-    }
-
-    /// The length of a string or block of 0 to 255 bytes.
-    fn length(&mut self) -> usize {
-        match self.below(16) {
-            0 => 0,
-            1 => 255 - self.below(3),
-            2 => self.below(256),
-            _ => self.below(24),
-        }
-    }
-
-    fn string(&mut self, mixture: usize, length: usize) -> Vec<u8> {
-        let mut string: Vec<u8> = (0..length).map(|_| self.mixed(mixture)).collect();
-        for byte in &mut string {
-            while *byte == 0x0D {
-                *byte = self.byte();
-            }
-        }
-        string
     }
 
     /// A good body for half a code, its string or block of this length.
@@ -350,7 +205,7 @@ impl Random {
             _ => {}
         }
         if [1, 9, 10].contains(&half) && !close {
-            body.extend(self.string(mixture, length));
+            body.extend(self.without(0x0D, mixture, length));
             body.push(0x0D);
         }
         if half == 10 {
@@ -372,7 +227,7 @@ impl Random {
                     _ => body[..16].to_vec(),
                 };
                 let length = 256 + self.below(3);
-                start.extend(self.string(mixture, length));
+                start.extend(self.without(0x0D, mixture, length));
                 *body = start;
             }
             _ => {}
@@ -534,34 +389,29 @@ impl Seen {
     }
 
     fn report(&self, report: &mut Report) {
-        let mut need = |property: Property, missing: Option<String>| {
-            report.check(property, missing.is_none(), || {
-                format!("too few {}", missing.unwrap())
-            });
-        };
-        need(Property::InputRequests, self.few_requests());
-        need(Property::InputRefusals, self.few_refusals());
-        need(Property::InputFirsts, self.few_firsts());
-        need(Property::InputMarksInside, self.few_marks_inside());
-        need(Property::InputEscapedData, self.few_escaped());
+        report.need(Property::InputRequests, self.few_requests());
+        report.need(Property::InputRefusals, self.few_refusals());
+        report.need(Property::InputFirsts, self.few_firsts());
+        report.need(Property::InputMarksInside, self.few_marks_inside());
+        report.need(Property::InputEscapedData, self.few_escaped());
         let few_resets = match (self.resets_inside, self.resets_stopped) {
             (..5000, _) => Some("resets inside a request".to_string()),
             (_, ..5000) => Some("resets of a stopped reader".to_string()),
             _ => None,
         };
-        need(Property::InputResets, few_resets);
-        need(Property::InputRecords, self.few_records());
+        report.need(Property::InputResets, few_resets);
+        report.need(Property::InputRecords, self.few_records());
         let few_beyond = (0..8).find(|&limit| self.beyond[limit] < 1000);
         let few_beyond = few_beyond.map(|limit| format!("records beyond limit {limit} alone"));
-        need(Property::InputBeyond, few_beyond);
+        report.need(Property::InputBeyond, few_beyond);
         let few_escapes = (0..512).find(|&at| !self.escapes[at / 256][at % 256]);
         let few_escapes =
             few_escapes.map(|at| format!("escape numbers {}, phase {}", at % 256, at / 256));
-        need(Property::InputEscapeNumbers, few_escapes);
+        report.need(Property::InputEscapeNumbers, few_escapes);
         let counts = self.slices.as_flattened().iter().chain(&self.edges);
         let few_slices = counts.enumerate().find(|&(_, &count)| count < 2000);
         let few_slices = few_slices.map(|(at, _)| format!("slices of kind {at}"));
-        need(Property::InputSlices, few_slices);
+        report.need(Property::InputSlices, few_slices);
     }
 
     fn few_requests(&self) -> Option<String> {
@@ -649,11 +499,6 @@ impl Seen {
     }
 }
 
-/// Every triple below these limits.
-fn every(a: usize, b: usize, c: usize) -> impl Iterator<Item = (usize, usize, usize)> {
-    (0..a * b * c).map(move |at| (at / (b * c), at / c % b, at % c))
-}
-
 // ---- One byte, one slice ----
 
 /// The library's record and lent bytes, and the second program's.
@@ -731,9 +576,9 @@ fn compare_answer(
         Read::Refused(number) => (3, number, (0, 0, 0)),
     };
     let mut all = true;
-    let mut check = |property: Property, good: bool, difference: &dyn Fn() -> String| {
+    let mut check = |property: Property, good: bool, found: &dyn Fn() -> String| {
         all &= good;
-        report.check(property, good, || format!("{}: {}", difference(), what()));
+        report.check(property, good, || format!("{}: {}", found(), what()));
     };
     check(group.kind, library.kind == kind, &|| {
         format!("{library:?}, second program {answer:?}")
@@ -753,14 +598,7 @@ fn compare_answer(
         });
     }
     check(group.body, pair.library == pair.second, &|| {
-        let at = (0..pair.library.len()).find(|&at| pair.library[at] != pair.second[at]);
-        let at = at.unwrap();
-        format!(
-            "lent byte {} is &{:02X}, second program &{:02X}",
-            at as isize - GUARD as isize,
-            pair.library[at],
-            pair.second[at]
-        )
+        difference(&pair.library, &pair.second, GUARD)
     });
     all
 }
@@ -834,7 +672,7 @@ fn damage(random: &mut Random, events: &mut Vec<Event>) {
             6 if within => events.insert(at, events[at]),
             7 => events.insert(at, None),
             8 => {
-                let mark = random.mark();
+                let mark = random.request_mark();
                 events.splice(at..at, [Some(0x9B), Some(mark)]);
             }
             _ => {
@@ -859,7 +697,7 @@ fn noise(random: &mut Random, carrier: u8) -> Vec<Event> {
     for _ in 0..1 + random.below(most) {
         events.push(match random.below(64) {
             0 => None,
-            1..8 => Some(random.mark()),
+            1..8 => Some(random.request_mark()),
             _ => Some(random.mixed(mixture)),
         });
     }
@@ -962,8 +800,8 @@ fn compare_slices(
     }
 }
 
-fn compare_streams(random: &mut Random, seen: &mut Seen, report: &mut Report) {
-    for number in 0..STREAMS {
+fn compare_streams(random: &mut Random, count: u64, seen: &mut Seen, report: &mut Report) {
+    for number in 0..count {
         let carrier = (random.below(5) > 2) as u8;
         let (kind, mut events) = match number % 8 {
             0 | 1 => ("good", requests(random, carrier, false)),
@@ -1048,7 +886,7 @@ const SLICES: u64 = 1_000_000;
 
 impl Random {
     /// A record within its limits and beyond.
-    fn record(&mut self) -> TubeReader {
+    fn reader_record(&mut self) -> TubeReader {
         let carrier = match self.below(24) {
             0 => self.at_least(2),
             at => at as u8 % 2,
@@ -1133,10 +971,10 @@ impl Random {
         }
     }
 
-    fn raw(&mut self) -> u8 {
+    fn reader_raw(&mut self) -> u8 {
         match self.below(4) {
             0 => self.byte(),
-            1 => self.mark(),
+            1 => self.request_mark(),
             _ => self.edge(),
         }
     }
@@ -1161,9 +999,15 @@ fn compare_step(record: TubeReader, raw: u8, lent: &Lent, seen: &mut Seen, repor
     seen.step(&record, answer);
 }
 
-/// A short slice from any record.
-fn compare_fed(random: &mut Random, seen: &mut Seen, report: &mut Report) {
-    let record = random.record();
+/// Short slices from any record.
+fn compare_fed(random: &mut Random, count: u64, seen: &mut Seen, report: &mut Report) {
+    for _ in 0..count {
+        compare_one_fed(random, seen, report);
+    }
+}
+
+fn compare_one_fed(random: &mut Random, seen: &mut Seen, report: &mut Report) {
+    let record = random.reader_record();
     let lent = random.lent(record.count);
     let mut pair = Pair {
         record,
@@ -1173,13 +1017,13 @@ fn compare_fed(random: &mut Random, seen: &mut Seen, report: &mut Report) {
     };
     let before = pair.reader;
     let length = random.below(9);
-    let raw: Vec<u8> = (0..length).map(|_| random.raw()).collect();
+    let raw: Vec<u8> = (0..length).map(|_| random.reader_raw()).collect();
     let what = || "any record".to_string();
     let (answer, used, _) = compare_slice(&mut pair, &raw, report, &what);
     seen.slice(2, &before, length, answer, used);
 }
 
-fn compare_steps(random: &mut Random, seen: &mut Seen, report: &mut Report) {
+fn compare_fresh(report: &mut Report) {
     for carrier in 0..=255 {
         let fresh = unsafe { tube_reader(carrier) };
         let expected = TubeReader {
@@ -1194,9 +1038,11 @@ fn compare_steps(random: &mut Random, seen: &mut Seen, report: &mut Report) {
             format!("{fresh:?}, carrier {carrier}")
         });
     }
+}
 
-    // Every code and count around the limits, with the bytes at which rules
-    // change; then every byte and escape number.
+/// Every code and count around the limits, with the bytes at which rules change;
+/// then every byte and escape number.
+fn compare_each_step(random: &mut Random, seen: &mut Seen, report: &mut Report) {
     for (carrier, code, count) in every(2, 0x1A, BODY + 4) {
         for raw in [0x9B, 0x0D, 0x00, 0x7F, 0x80, 0x41] {
             for escape in [0, random.at_least(1)] {
@@ -1214,34 +1060,45 @@ fn compare_steps(random: &mut Random, seen: &mut Seen, report: &mut Report) {
         }
     }
     for (phase, raw, escape) in every(4, 256, 256) {
-        let mut record = random.record();
+        let mut record = random.reader_record();
         record.phase = phase as u8;
         record.escape = escape as u8;
         let lent = random.lent(record.count);
         compare_step(record, raw as u8, &lent, seen, report);
     }
-    for _ in 0..STEPS {
-        let record = random.record();
+}
+
+fn compare_steps(random: &mut Random, count: u64, seen: &mut Seen, report: &mut Report) {
+    for _ in 0..count {
+        let record = random.reader_record();
         let lent = random.lent(record.count);
-        let raw = random.raw();
+        let raw = random.reader_raw();
         compare_step(record, raw, &lent, seen, report);
-    }
-    for _ in 0..SLICES {
-        compare_fed(random, seen, report);
     }
 }
 
-fn main() -> ExitCode {
-    let mut random = Random(0x0123_4567_89AB_CDEF);
-    let mut report = Report(std::array::from_fn(|_| (0, None)));
+// ---- All of it ----
+
+pub fn report() -> Report {
+    Report::new(&PROPERTIES)
+}
+
+/// One input in `share` of each kind that is drawn at random.
+fn compare_random(random: &mut Random, share: u64, seen: &mut Seen, report: &mut Report) {
+    compare_fresh(report);
+    compare_streams(random, STREAMS / share, seen, report);
+    compare_steps(random, STEPS / share, seen, report);
+    compare_fed(random, SLICES / share, seen, report);
+}
+
+pub fn whole(random: &mut Random, report: &mut Report) {
     let mut seen = Seen::new();
-    compare_streams(&mut random, &mut seen, &mut report);
-    compare_each(&mut random, &mut seen, &mut report);
-    compare_steps(&mut random, &mut seen, &mut report);
-    seen.report(&mut report);
-    if report.print() {
-        ExitCode::SUCCESS
-    } else {
-        ExitCode::FAILURE
-    }
+    compare_random(random, 1, &mut seen, report);
+    compare_each(random, &mut seen, report);
+    compare_each_step(random, &mut seen, report);
+    seen.report(report);
+}
+
+pub fn share(random: &mut Random, share: u64, report: &mut Report) {
+    compare_random(random, share, &mut Seen::new(), report);
 }

@@ -1,33 +1,20 @@
-//! Compares the proved library's reply writer, the fields that it reads from a
-//! finished reply, and the kind that it gives a request, with the second
-//! program. Prints one line for each property, then `N passed, M failed`.
+//! The reply writer, the fields that are read from a finished reply, and the kind of
+//! a request: the same go to the library and to the second program, and everything
+//! they give is compared.
 
-use std::process::ExitCode;
-
-// Errors and single marks are not needed here.
-#[allow(dead_code)]
-#[path = "inputs.rs"]
-mod inputs;
-
-#[allow(dead_code)]
-#[path = "interface.rs"]
-mod interface;
-
-#[allow(dead_code)]
-#[path = "link.rs"]
-mod link;
-
-use inputs::{Laden, Random, Report, Row, difference, escaped, every};
-use interface::{
+use crate::inputs::{Laden, escaped};
+use crate::interface::{
     REPLY, TubeGiven, TubeWritten, tube_begin, tube_kind_of, tube_link, tube_read_reply, tube_run,
     tube_write_reply,
 };
-use link::serial::{BODY, Read, Reader, Request, SERIAL};
-use link::{
-    A_BLOCK, ACK, BLOCK, BLOCK_CARRY_A, Begun, CALLS, CARRY_A, CARRY_Y_X, ESCAPED, Given, LENT,
-    LINE, Link, NOTE, NUMBER, OSARGS, OSBGET, OSBPUT, OSBYTE_HIGH, OSBYTE_LOW, OSCLI, OSFILE,
+use crate::link::serial::{BODY, Read, Reader, Request, SERIAL};
+use crate::link::{
+    self, A_BLOCK, ACK, BLOCK, BLOCK_CARRY_A, Begun, CALLS, CARRY_A, CARRY_Y_X, ESCAPED, Given,
+    LENT, LINE, Link, NOTE, NUMBER, OSARGS, OSBGET, OSBPUT, OSBYTE_HIGH, OSBYTE_LOW, OSCLI, OSFILE,
     OSFIND_CLOSE, OSFIND_OPEN, OSGBPB, OSRDCH, OSWORD, OSWORD_0, PLAIN, Reply, Told,
 };
+use crate::random::Random;
+use crate::report::{Report, Row, difference, every};
 
 const GUARD: usize = 16;
 
@@ -129,8 +116,6 @@ const PROPERTIES: [Row<Property>; 26] = [
     (Property::InputLists, "inputs: byte lists of each length for each call", 1),
     (Property::InputBodies, "inputs: bodies of each code, also empty", 1),
 ];
-
-type Compared = Report<Property>;
 
 // ---- Replies ----
 
@@ -414,7 +399,7 @@ impl Seen {
         }
     }
 
-    fn report(&self, report: &mut Compared) {
+    fn report(&self, report: &mut Report) {
         const ANSWERS: [usize; 4] = [0, 6, 8, 9];
         let few = every(1, CALLS as usize, 4)
             .find(|&(_, call, answer)| self.answers[call][ANSWERS[answer]] < 1000);
@@ -486,8 +471,8 @@ fn library_write(reply: &Owned, out: &mut [u8]) -> TubeWritten {
     }
 }
 
-fn compare_replies(random: &mut Random, seen: &mut Seen, report: &mut Compared) {
-    for number in 0..WRITTEN {
+fn compare_replies(random: &mut Random, count: u64, seen: &mut Seen, report: &mut Report) {
+    for number in 0..count {
         let call = random.below(CALLS as usize) as u8;
         let mut reply = Owned::good(random, call);
         match random.below(16) {
@@ -522,7 +507,7 @@ fn compare_replies(random: &mut Random, seen: &mut Seen, report: &mut Compared) 
 }
 
 /// Every number, block length and text length of each call.
-fn compare_each(random: &mut Random, seen: &mut Seen, report: &mut Compared) {
+fn compare_each(random: &mut Random, seen: &mut Seen, report: &mut Report) {
     for call in 0..CALLS {
         for byte in 0..=255 {
             let mut reply = Owned::good(random, call);
@@ -563,7 +548,7 @@ fn compare_reply(
     reply: &Owned,
     name: &str,
     seen: &mut Seen,
-    report: &mut Compared,
+    report: &mut Report,
 ) {
     let mut large = [0; 2 * LENT];
     // A refused reply has no size; its buffers are of any length.
@@ -608,7 +593,7 @@ fn compare_buffer(
     lent: usize,
     name: &str,
     seen: &mut Seen,
-    report: &mut Compared,
+    report: &mut Report,
 ) -> bool {
     let mut before = vec![0; GUARD + lent + GUARD];
     random.fill(&mut before);
@@ -653,7 +638,7 @@ fn encoding(reply: &Owned, size: usize) -> Vec<u8> {
 
 /// The library's encoding, read by the second program, gives the reply at its
 /// last byte and not before.
-fn compare_second_reads(reply: &Owned, size: usize, name: &str, report: &mut Compared) {
+fn compare_second_reads(reply: &Owned, size: usize, name: &str, report: &mut Report) {
     let raw = encoding(reply, size);
     let plain = reply.bytes();
     let mut link = Link::new();
@@ -710,7 +695,7 @@ fn library_given((call, out_length): (u8, u8), bytes: &[u8]) -> TubeGiven {
 
 /// The library's encoding, read by the library's link and taken apart by it,
 /// gives the reply.
-fn compare_library_reads(reply: &Owned, size: usize, name: &str, report: &mut Compared) {
+fn compare_library_reads(reply: &Owned, size: usize, name: &str, report: &mut Report) {
     let kind = (reply.call, reply.out_length);
     let bytes = library_reply(kind, &encoding(reply, size));
     let again = bytes.map(|bytes| Owned::from_given(kind, &bytes, &library_given(kind, &bytes)));
@@ -723,7 +708,7 @@ fn compare_library_reads(reply: &Owned, size: usize, name: &str, report: &mut Co
 
 /// A reply with other bits in its carry, acknowledgement and first byte, and
 /// with actions between, read and written again by the library.
-fn compare_normal(random: &mut Random, report: &mut Compared) {
+fn compare_normal(random: &mut Random, report: &mut Report) {
     let Laden {
         kind, plain, raw, ..
     } = Laden::new(random);
@@ -769,7 +754,7 @@ fn shown_given(given: &Given) -> TubeGiven {
     }
 }
 
-fn compare_list(kind: (u8, u8), bytes: &[u8], seen: &mut Seen, report: &mut Compared) {
+fn compare_list(kind: (u8, u8), bytes: &[u8], seen: &mut Seen, report: &mut Report) {
     let library = library_given(kind, bytes);
     let second = shown_given(&link::given(kind.0, bytes));
     if let Some(lists) = seen.lists[kind.0.min(CALLS) as usize].get_mut(bytes.len()) {
@@ -799,8 +784,8 @@ fn compare_list(kind: (u8, u8), bytes: &[u8], seen: &mut Seen, report: &mut Comp
     report.check(Property::GivenText, text(&library) == text(&second), what);
 }
 
-/// Byte lists of every length for each call, finished replies, and any.
-fn compare_lists(random: &mut Random, seen: &mut Seen, report: &mut Compared) {
+/// Byte lists of every length for each call.
+fn compare_each_list(random: &mut Random, seen: &mut Seen, report: &mut Report) {
     for (call, length, _) in every(1 + CALLS as usize, LENT + 8, 40) {
         let mixture = random.below(4);
         let bytes = random.bytes(mixture, length);
@@ -816,7 +801,11 @@ fn compare_lists(random: &mut Random, seen: &mut Seen, report: &mut Compared) {
             compare_list((call, random.byte()), &bytes, seen, report);
         }
     }
-    for _ in 0..LISTS {
+}
+
+/// Finished replies, and any bytes.
+fn compare_lists(random: &mut Random, count: u64, seen: &mut Seen, report: &mut Report) {
+    for _ in 0..count {
         let kind = random.call();
         let mixture = random.below(4);
         let bytes = match random.one_in(2) {
@@ -828,7 +817,7 @@ fn compare_lists(random: &mut Random, seen: &mut Seen, report: &mut Compared) {
         };
         compare_list(kind, &bytes, seen, report);
     }
-    for _ in 0..LISTS / 10 {
+    for _ in 0..count / 10 {
         compare_normal(random, report);
     }
 }
@@ -884,8 +873,8 @@ fn request(random: &mut Random, call: u8, out_length: u8) -> (u8, Vec<u8>) {
     (code, body[..length].to_vec())
 }
 
-fn compare_kinds(random: &mut Random, seen: &mut Seen, report: &mut Compared) {
-    for at in 0..LISTS {
+fn compare_kinds(random: &mut Random, count: u64, seen: &mut Seen, report: &mut Report) {
+    for at in 0..count {
         let code = match at % 3 {
             0 => 2 * random.below(12) as u8,
             _ => random.byte(),
@@ -911,7 +900,7 @@ fn compare_kinds(random: &mut Random, seen: &mut Seen, report: &mut Compared) {
             format!("{library:?}, second program {second:?}: code &{code:02X}, {body:02X?}")
         });
     }
-    for _ in 0..LISTS / 20 {
+    for _ in 0..count / 20 {
         let call = random.below(CALLS as usize) as u8;
         let out_length = random.byte();
         let (code, body) = request(random, call, out_length);
@@ -926,14 +915,27 @@ fn compare_kinds(random: &mut Random, seen: &mut Seen, report: &mut Compared) {
     }
 }
 
-fn main() -> ExitCode {
-    let mut random = Random(0x0123_4567_89AB_CDEF);
-    let mut report = Report::new(&PROPERTIES);
+// ---- All of it ----
+
+pub fn report() -> Report {
+    Report::new(&PROPERTIES)
+}
+
+/// One input in `share` of each kind that is drawn at random.
+fn compare_random(random: &mut Random, share: u64, seen: &mut Seen, report: &mut Report) {
+    compare_replies(random, WRITTEN / share, seen, report);
+    compare_lists(random, LISTS / share, seen, report);
+    compare_kinds(random, LISTS / share, seen, report);
+}
+
+pub fn whole(random: &mut Random, report: &mut Report) {
     let mut seen = Seen::new();
-    compare_replies(&mut random, &mut seen, &mut report);
-    compare_each(&mut random, &mut seen, &mut report);
-    compare_lists(&mut random, &mut seen, &mut report);
-    compare_kinds(&mut random, &mut seen, &mut report);
-    seen.report(&mut report);
-    report.print()
+    compare_random(random, 1, &mut seen, report);
+    compare_each(random, &mut seen, report);
+    compare_each_list(random, &mut seen, report);
+    seen.report(report);
+}
+
+pub fn share(random: &mut Random, share: u64, report: &mut Report) {
+    compare_random(random, share, &mut Seen::new(), report);
 }

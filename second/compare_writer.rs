@@ -1,38 +1,11 @@
-//! Compares the proved library's request writer with the second program: the
-//! same requests and lent buffers go to both, and everything they give is
-//! compared. Prints one line for each property, then `N passed, M failed`.
+//! The request writer: the same requests and lent buffers go to the library and to
+//! the second program, and everything they give is compared.
 
-use std::process::ExitCode;
-
-#[path = "serial.rs"]
-mod serial;
-
-use serial::{BODY, PARALLEL, Read, Reader, Request, SERIAL};
-
-#[repr(C)]
-#[derive(Clone, Copy, Debug)]
-struct TubeWritten {
-    length: usize,
-    answer: u8,
-}
-
-unsafe extern "C" {
-    fn tube_write_request(
-        carrier: u8,
-        style: u8,
-        call: u8,
-        x: u8,
-        y: u8,
-        a: u8,
-        out_length: u8,
-        block: *const u8,
-        block_len: usize,
-        text: *const u8,
-        text_len: usize,
-        out: *mut u8,
-        out_len: usize,
-    ) -> TubeWritten;
-}
+use crate::interface::{TubeWritten, tube_write_request};
+use crate::link::serial::{BODY, PARALLEL, Read, Reader, Request, SERIAL};
+use crate::link::{CALLS, OSFIND_CLOSE, OSFIND_OPEN, OSWORD};
+use crate::random::Random;
+use crate::report::{Report, Row, difference};
 
 /// Calls the library, lending the bytes of `out` between the guards.
 fn library_write(request: &Request, out: &mut [u8], lent: usize) -> TubeWritten {
@@ -57,12 +30,6 @@ fn library_write(request: &Request, out: &mut [u8], lent: usize) -> TubeWritten 
 }
 
 const GUARD: usize = 16;
-
-// The calls.
-const CALLS: u8 = 13;
-const OSWORD: u8 = 4;
-const OSFIND_CLOSE: u8 = 9;
-const OSFIND_OPEN: u8 = 10;
 
 /// The code of each call.
 const CODES: [u8; CALLS as usize] = [
@@ -105,11 +72,14 @@ enum Property {
     InputSizes,
 }
 
-const COUNT: usize = 14;
+impl From<Property> for usize {
+    fn from(property: Property) -> usize {
+        property as usize
+    }
+}
 
-/// Each property with its name and the least number of inputs it needs.
 #[rustfmt::skip]
-const PROPERTIES: [(Property, &str, u64); COUNT] = [
+const PROPERTIES: [Row<Property>; 14] = [
     (Property::Answer, "write: answer", 6 * REQUESTS),
     (Property::Length, "write: length", 6 * REQUESTS),
     (Property::Encoding, "write: the encoding", REQUESTS),
@@ -126,113 +96,7 @@ const PROPERTIES: [(Property, &str, u64); COUNT] = [
     (Property::InputSizes, "inputs: string and block lengths", 1),
 ];
 
-/// For each property the inputs compared and the first difference.
-struct Report([(u64, Option<String>); COUNT]);
-
-impl Report {
-    fn check(&mut self, property: Property, good: bool, difference: impl FnOnce() -> String) {
-        let (inputs, first) = &mut self.0[property as usize];
-        *inputs += 1;
-        if !good && first.is_none() {
-            *first = Some(difference());
-        }
-    }
-
-    /// Prints the report; true where every property holds.
-    fn print(mut self) -> bool {
-        let mut passed = 0;
-        for (property, name, least) in PROPERTIES {
-            let (inputs, first) = &mut self.0[property as usize];
-            if *inputs < least && first.is_none() {
-                *first = Some(format!("only {inputs} inputs, {least} needed"));
-            }
-            match first {
-                None => {
-                    passed += 1;
-                    println!("ok {name}");
-                }
-                Some(difference) => println!("FAILED {name}: {difference}"),
-            }
-        }
-        println!("{passed} passed, {} failed", PROPERTIES.len() - passed);
-        passed == PROPERTIES.len()
-    }
-}
-
 // ---- Random inputs ----
-
-/// Xorshift: the same inputs in every run.
-struct Random(u64);
-
-impl Random {
-    fn next(&mut self) -> u64 {
-        self.0 ^= self.0 >> 12;
-        self.0 ^= self.0 << 25;
-        self.0 ^= self.0 >> 27;
-        self.0.wrapping_mul(0x2545_F491_4F6C_DD1D)
-    }
-
-    /// A number below `limit`.
-    fn below(&mut self, limit: usize) -> usize {
-        ((self.next() >> 32) as usize) % limit
-    }
-
-    fn one_in(&mut self, times: usize) -> bool {
-        self.below(times) == 0
-    }
-
-    fn byte(&mut self) -> u8 {
-        (self.next() >> 56) as u8
-    }
-
-    /// A byte from `low` to 255.
-    fn at_least(&mut self, low: u8) -> u8 {
-        low + self.below(256 - low as usize) as u8
-    }
-
-    fn fill(&mut self, bytes: &mut [u8]) {
-        for part in bytes.chunks_mut(8) {
-            part.copy_from_slice(&self.next().to_le_bytes()[..part.len()]);
-        }
-    }
-
-    /// A byte of one of four mixtures: any byte, edges among them, half of them
-    /// &9B, nothing but &9B.
-    fn mixed(&mut self, mixture: usize) -> u8 {
-        const EDGES: [u8; 8] = [0x9B, 0x0D, 0x00, 0x01, 0x7F, 0x80, 0xFF, 0x9C];
-        match mixture {
-            1 if self.one_in(3) => EDGES[self.below(8)],
-            2 if self.one_in(2) => 0x9B,
-            3 => 0x9B,
-            _ => self.byte(),
-        }
-    }
-
-    fn bytes(&mut self, mixture: usize, length: usize) -> Vec<u8> {
-        (0..length).map(|_| self.mixed(mixture)).collect()
-    }
-
-    /// Bytes without &0D.
-    fn string(&mut self, mixture: usize, length: usize) -> Vec<u8> {
-        let mut string = self.bytes(mixture, length);
-        for byte in &mut string {
-            while *byte == 0x0D {
-                *byte = self.byte();
-            }
-        }
-        string
-    }
-
-    /// A length of 0 to 255.
-    fn length(&mut self) -> usize {
-        match self.below(8) {
-            0 => 0,
-            1 => 255 - self.below(3),
-            2 => self.below(256),
-            _ => self.below(24),
-        }
-    }
-}
 
 /// A request that owns its block and string.
 #[derive(Clone, Debug)]
@@ -290,7 +154,7 @@ impl Owned {
             a,
             out_length: random.mixed(mixture),
             block: random.bytes(mixture, block_length),
-            text: random.string(mixture, text_length),
+            text: random.without(0x0D, mixture, text_length),
         }
     }
 
@@ -415,6 +279,16 @@ struct Seen {
 }
 
 impl Seen {
+    fn new() -> Seen {
+        Seen {
+            answers: [[[0; 10]; CALLS as usize]; 2],
+            styles: [[0; 4]; CALLS as usize],
+            rules: [[[0; RULES.len()]; CALLS as usize]; 2],
+            texts: [[false; 256]; CALLS as usize],
+            blocks: [false; 256],
+        }
+    }
+
     fn note(&mut self, request: &Request, answer: u8) {
         let Request {
             carrier,
@@ -438,14 +312,9 @@ impl Seen {
     }
 
     fn report(&self, report: &mut Report) {
-        let mut need = |property: Property, missing: Option<String>| {
-            report.check(property, missing.is_none(), || {
-                format!("too few {}", missing.unwrap())
-            });
-        };
-        need(Property::InputCalls, self.few_calls());
-        need(Property::InputRules, self.few_rules());
-        need(Property::InputSizes, self.few_sizes());
+        report.need(Property::InputCalls, self.few_calls());
+        report.need(Property::InputRules, self.few_rules());
+        report.need(Property::InputSizes, self.few_sizes());
     }
 
     fn few_calls(&self) -> Option<String> {
@@ -507,8 +376,8 @@ impl Seen {
 
 const REQUESTS: u64 = 120_000;
 
-fn compare_requests(random: &mut Random, seen: &mut Seen, report: &mut Report) {
-    for number in 0..REQUESTS {
+fn compare_requests(random: &mut Random, count: u64, seen: &mut Seen, report: &mut Report) {
+    for number in 0..count {
         let carrier = random.below(2) as u8;
         let call = random.below(CALLS as usize) as u8;
         let mut request = Owned::good(random, carrier, call);
@@ -558,7 +427,7 @@ fn compare_each(random: &mut Random, seen: &mut Seen, report: &mut Report) {
                 request.block = random.bytes(mixture, length);
                 compare_request(random, &request, "each block length", seen, report);
                 let mut request = Owned::good(random, carrier, call);
-                request.text = random.string(mixture, length);
+                request.text = random.without(0x0D, mixture, length);
                 compare_request(random, &request, "each string length", seen, report);
             }
         }
@@ -654,16 +523,7 @@ fn compare_buffer(
     };
     report.check(Property::Answer, library.answer == answer, what);
     report.check(Property::Length, library.length == length, what);
-    let at = || {
-        let at = (0..out.len()).find(|&at| out[at] != expected[at]).unwrap();
-        format!(
-            "lent byte {} is &{:02X}, second program &{:02X}: {}",
-            at as isize - GUARD as isize,
-            out[at],
-            expected[at],
-            what()
-        )
-    };
+    let at = || format!("{}: {}", difference(&out, &expected, GUARD), what());
     if answer == 0 {
         let whole = GUARD..GUARD + length;
         let equal = out[whole.clone()] == expected[whole.clone()];
@@ -722,22 +582,19 @@ fn compare_read_back(request: &Request, encoding: &[u8], name: &str, report: &mu
     });
 }
 
-fn main() -> ExitCode {
-    let mut random = Random(0x0123_4567_89AB_CDEF);
-    let mut report = Report(std::array::from_fn(|_| (0, None)));
-    let mut seen = Seen {
-        answers: [[[0; 10]; CALLS as usize]; 2],
-        styles: [[0; 4]; CALLS as usize],
-        rules: [[[0; RULES.len()]; CALLS as usize]; 2],
-        texts: [[false; 256]; CALLS as usize],
-        blocks: [false; 256],
-    };
-    compare_requests(&mut random, &mut seen, &mut report);
-    compare_each(&mut random, &mut seen, &mut report);
-    seen.report(&mut report);
-    if report.print() {
-        ExitCode::SUCCESS
-    } else {
-        ExitCode::FAILURE
-    }
+// ---- All of it ----
+
+pub fn report() -> Report {
+    Report::new(&PROPERTIES)
+}
+
+pub fn whole(random: &mut Random, report: &mut Report) {
+    let mut seen = Seen::new();
+    compare_requests(random, REQUESTS, &mut seen, report);
+    compare_each(random, &mut seen, report);
+    seen.report(report);
+}
+
+pub fn share(random: &mut Random, share: u64, report: &mut Report) {
+    compare_requests(random, REQUESTS / share, &mut Seen::new(), report);
 }

@@ -1,4 +1,60 @@
-//! The library's C interface of links and replies, as Rust declares it.
+//! The library's C interface, `include/tube.h`, as Rust declares it.
+
+/// A chip: the bytes of each channel, how many it holds, the flags.
+#[repr(C)]
+#[derive(Clone, Copy, PartialEq, Debug)]
+pub struct TubeChip {
+    pub bytes: [u8; 24],
+    pub held: [u8; 8],
+    pub flags: u8,
+}
+
+#[repr(C)]
+#[derive(Clone, Copy, Debug)]
+pub struct TubeReply {
+    pub answer: u8,
+    pub byte: u8,
+}
+
+#[repr(C)]
+#[derive(Clone, Copy, Debug)]
+pub struct TubePlayed {
+    pub played: usize,
+    pub answer: u8,
+    pub chip: TubeChip,
+}
+
+/// A request reader.
+#[repr(C)]
+#[derive(Clone, Copy, PartialEq, Debug)]
+pub struct TubeReader {
+    pub count: usize,
+    pub carrier: u8,
+    pub phase: u8,
+    pub escape: u8,
+    pub style: u8,
+    pub code: u8,
+}
+
+/// What a raw byte gives: kind 0 needs more, 1 is a character, 2 a request, 3 a
+/// refusal.
+#[repr(C)]
+#[derive(Clone, Copy, Debug)]
+pub struct TubeRead {
+    pub reader: TubeReader,
+    pub length: usize,
+    pub kind: u8,
+    pub value: u8,
+    pub style: u8,
+    pub code: u8,
+}
+
+#[repr(C)]
+#[derive(Clone, Copy, Debug)]
+pub struct TubeFed {
+    pub read: TubeRead,
+    pub used: usize,
+}
 
 /// A link: the bytes of the reply and of the open action so far; 0 or one more
 /// than the call that waits; the open action (0 none, 1 error, 2 event, 3
@@ -82,6 +138,55 @@ pub struct TubeKind {
 }
 
 unsafe extern "C" {
+    pub fn tube_access(
+        chip: *mut TubeChip,
+        side: u8,
+        offset: u8,
+        operation: u8,
+        byte: u8,
+    ) -> TubeReply;
+    pub fn tube_new() -> TubeChip;
+    pub fn tube_reset(chip: TubeChip) -> TubeChip;
+    pub fn tube_lines(chip: TubeChip) -> u8;
+    pub fn tube_play(
+        chip: TubeChip,
+        script: *const u8,
+        script_length: usize,
+        limit: usize,
+        results: *mut u8,
+        results_length: usize,
+    ) -> TubePlayed;
+    pub fn tube_text(
+        results: *const u8,
+        results_length: usize,
+        played: usize,
+        answer: u8,
+        out: *mut u8,
+        out_length: usize,
+    ) -> usize;
+    pub fn tube_reader(carrier: u8) -> TubeReader;
+    pub fn tube_read(reader: TubeReader, raw: u8, body: *mut u8) -> TubeRead;
+    pub fn tube_feed(
+        reader: TubeReader,
+        raw: *const u8,
+        raw_length: usize,
+        body: *mut u8,
+    ) -> TubeFed;
+    pub fn tube_write_request(
+        carrier: u8,
+        style: u8,
+        call: u8,
+        x: u8,
+        y: u8,
+        a: u8,
+        out_length: u8,
+        block: *const u8,
+        block_length: usize,
+        text: *const u8,
+        text_length: usize,
+        out: *mut u8,
+        room: usize,
+    ) -> TubeWritten;
     pub fn tube_link() -> TubeLink;
     pub fn tube_begin(link: TubeLink, call: u8, out_length: u8) -> TubeBegun;
     pub fn tube_link_step(link: TubeLink, raw: u8, reply: *mut u8, own: *mut u8) -> TubeTold;

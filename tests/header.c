@@ -1,5 +1,5 @@
-/* The header against the library: the records' layout, one access of each kind, the example script, a request written and read,
- * by the byte and in slices, and the link: calls begun, raw bytes read by the byte and in slices, replies written and read. */
+/* The header against the library: the records' layout, and every export called at its edges: smallest and largest input, each refusal,
+ * buffers just long enough and one byte short. Each lent byte that must stay is compared. */
 #include "../include/tube.h"
 #include <stdio.h>
 #include <string.h>
@@ -12,9 +12,353 @@ static void expect(const char *name, int right) {
     failed += !right;
 }
 
-static int same(TubeReader a, TubeReader b) {
+/* ---- Lent buffers ---- */
+
+enum { GUARD = 64, AREA = 4096, FILL = 0xEE };
+
+/* A buffer between guard bytes, all of it filled. */
+typedef struct {
+    uint8_t area[GUARD + AREA + GUARD];
+} Lent;
+
+static uint8_t *lend(Lent *lent) {
+    memset(lent->area, FILL, sizeof lent->area);
+    return lent->area + GUARD;
+}
+
+/* Whether every byte but `length` bytes from index `from` on is as it was lent. */
+static int kept(const Lent *lent, size_t from, size_t length) {
+    for (size_t i = 0; i < sizeof lent->area; i++)
+        if ((i < GUARD + from || i >= GUARD + from + length) && lent->area[i] != FILL)
+            return 0;
+    return 1;
+}
+
+static Lent one, two, three;
+
+/* ---- The layout ---- */
+
+#define AT(type, field, offset) (offsetof(type, field) == (offset))
+
+static void layout(void) {
+    expect("layout of the chip", sizeof(TubeChip) == 33 && AT(TubeChip, bytes, 0) && AT(TubeChip, held, 24) && AT(TubeChip, flags, 32)
+                                     && sizeof(TubeReply) == 2 && AT(TubeReply, answer, 0) && AT(TubeReply, byte, 1));
+    expect("layout of the player", sizeof(TubePlayed) == 48 && AT(TubePlayed, played, 0) && AT(TubePlayed, answer, 8) && AT(TubePlayed, chip, 9));
+    expect("layout of the reader", sizeof(TubeReader) == 16 && AT(TubeReader, count, 0) && AT(TubeReader, carrier, 8) && AT(TubeReader, phase, 9)
+                                       && AT(TubeReader, escape, 10) && AT(TubeReader, style, 11) && AT(TubeReader, code, 12)
+                                       && sizeof(TubeRead) == 32 && AT(TubeRead, reader, 0) && AT(TubeRead, length, 16) && AT(TubeRead, kind, 24)
+                                       && AT(TubeRead, value, 25) && AT(TubeRead, style, 26) && AT(TubeRead, code, 27)
+                                       && sizeof(TubeFed) == 40 && AT(TubeFed, read, 0) && AT(TubeFed, used, 32));
+    expect("layout of the writers and kinds", sizeof(TubeWritten) == 16 && AT(TubeWritten, length, 0) && AT(TubeWritten, answer, 8)
+                                                  && sizeof(TubeKind) == 2 && AT(TubeKind, call, 0) && AT(TubeKind, out_length, 1));
+    expect("layout of the link", sizeof(TubeLink) == 24 && AT(TubeLink, got, 0) && AT(TubeLink, held, 8) && AT(TubeLink, wait, 16)
+                                     && AT(TubeLink, out_length, 17) && AT(TubeLink, escape, 18) && AT(TubeLink, action, 19) && AT(TubeLink, stopped, 20)
+                                     && sizeof(TubeTold) == 40 && AT(TubeTold, link, 0) && AT(TubeTold, length, 24) && AT(TubeTold, kind, 32)
+                                     && AT(TubeTold, first, 33) && AT(TubeTold, second, 34) && AT(TubeTold, third, 35) && AT(TubeTold, fourth, 36)
+                                     && sizeof(TubeBegun) == 32 && AT(TubeBegun, link, 0) && AT(TubeBegun, kind, 24) && AT(TubeBegun, answer, 25)
+                                     && sizeof(TubeRan) == 56 && AT(TubeRan, told, 0) && AT(TubeRan, used, 40) && AT(TubeRan, noted, 48));
+    expect("layout of a reply read", sizeof(TubeGiven) == 40 && AT(TubeGiven, block_start, 0) && AT(TubeGiven, block_length, 8)
+                                         && AT(TubeGiven, text_start, 16) && AT(TubeGiven, text_length, 24) && AT(TubeGiven, reply, 32)
+                                         && AT(TubeGiven, carry, 33) && AT(TubeGiven, x, 34) && AT(TubeGiven, y, 35) && AT(TubeGiven, a, 36));
+}
+
+/* ---- The chip ---- */
+
+static int same_chip(TubeChip a, TubeChip b) {
+    return memcmp(&a, &b, sizeof a) == 0;
+}
+
+static int answers(TubeReply r, uint8_t answer, uint8_t byte) {
+    return r.answer == answer && r.byte == byte;
+}
+
+static void chip_made(void) {
+    const TubeChip fresh = tube_new();
+    TubeChip nothing, full;
+    memset(&nothing, 0, sizeof nothing);
+    memset(&full, 0xFF, sizeof full);
+    expect("tube_new: nothing held, no flag", memcmp(fresh.held, nothing.held, 8) == 0 && fresh.flags == 0);
+    expect("tube_reset: any record becomes a fresh one", same_chip(tube_reset(full), fresh) && same_chip(tube_reset(fresh), fresh));
+    expect("tube_lines: none of a fresh record and of one over its capacities", tube_lines(fresh) == 0 && tube_lines(full) == 0);
+
+    TubeChip all = fresh;
+    all.flags = 0xFF;
+    memcpy(all.held, tube_capacity, 8);
+    int lines = tube_lines(all) == TUBE_HOST_IRQ + TUBE_PARASITE_IRQ + TUBE_PARASITE_NMI + TUBE_PARASITE_RESET;
+    all.flags = TUBE_FLAG_P;
+    lines = lines && tube_lines(all) == TUBE_PARASITE_RESET;
+    all.flags = TUBE_FLAG_M;
+    lines = lines && tube_lines(all) == TUBE_PARASITE_NMI;
+    all.flags = TUBE_FLAG_I;
+    lines = lines && tube_lines(all) == TUBE_PARASITE_IRQ;
+    all.flags = TUBE_FLAG_J;
+    lines = lines && tube_lines(all) == TUBE_PARASITE_IRQ;
+    all.flags = TUBE_FLAG_Q;
+    expect("tube_lines: each alone and all", lines && tube_lines(all) == TUBE_HOST_IRQ);
+}
+
+static void accesses(void) {
+    TubeChip chip = tube_new();
+    int taken = answers(tube_access(&chip, TUBE_HOST, TUBE_R1_DATA, TUBE_WRITE, 0x2A), TUBE_DONE, 0) && chip.held[0] == 1 && chip.bytes[tube_start[0]] == 0x2A;
+    TubeChip before = chip;
+    int full = answers(tube_access(&chip, TUBE_HOST, TUBE_R1_DATA, 0xFF, 0x2B), TUBE_NO_ROOM, 0) && same_chip(chip, before);
+    int read = answers(tube_access(&chip, TUBE_PARASITE, TUBE_R1_DATA, TUBE_READ, 0xFF), TUBE_DONE, 0x2A) && chip.held[0] == 0;
+    before = chip;
+    int empty = answers(tube_access(&chip, TUBE_PARASITE, TUBE_R1_DATA, TUBE_READ, 0), TUBE_EMPTY, 0) && same_chip(chip, before);
+    expect("tube_access: taken, no room, read, empty", taken && full && read && empty);
+
+    int missing = 1;
+    for (int i = 0; i < 256; i++) {
+        if (i > TUBE_PARASITE)
+            missing = missing && answers(tube_access(&chip, (uint8_t)i, 0, TUBE_WRITE, 0xFF), TUBE_MISSING, 0);
+        if (i > TUBE_R4_DATA)
+            missing = missing && answers(tube_access(&chip, TUBE_HOST, (uint8_t)i, TUBE_READ, 0), TUBE_MISSING, 0);
+    }
+    expect("tube_access: no such side or offset", missing && same_chip(chip, before));
+
+    int ten = 1;
+    for (int i = 0; i < 11; i++)
+        ten = ten && tube_access(&chip, TUBE_PARASITE, TUBE_R1_DATA, TUBE_WRITE, (uint8_t)i).answer == (i < 10 ? TUBE_DONE : TUBE_NO_ROOM);
+    for (int i = 0; i < 11; i++)
+        ten = ten && answers(tube_access(&chip, TUBE_HOST, TUBE_R1_DATA, TUBE_READ, 0), i < 10 ? TUBE_DONE : TUBE_EMPTY, (uint8_t)(i < 10 ? i : 0));
+    expect("tube_access: ten bytes through R1, in order", ten);
+
+    int status = answers(tube_access(&chip, TUBE_HOST, TUBE_R1_STATUS, TUBE_READ, 0), TUBE_DONE, TUBE_NOT_FULL)
+                 && answers(tube_access(&chip, TUBE_HOST, TUBE_R2_STATUS, TUBE_READ, 0), TUBE_DONE, 0x7F)
+                 && answers(tube_access(&chip, TUBE_HOST, TUBE_R1_STATUS, TUBE_WRITE, TUBE_SET | TUBE_CLEAR | TUBE_FLAG_I | TUBE_FLAG_Q), TUBE_DONE, 0)
+                 && answers(tube_access(&chip, TUBE_PARASITE, TUBE_R1_STATUS, TUBE_READ, 0), TUBE_DONE, TUBE_NOT_FULL | TUBE_FLAG_I | TUBE_FLAG_Q);
+    expect("tube_access: status and control", status);
+
+    int over = 1;
+    for (int c = 0; c < 8; c++) {
+        chip = tube_new();
+        chip.held[c] = tube_capacity[c];
+        over = over && tube_access(&chip, TUBE_HOST, TUBE_R1_STATUS, TUBE_READ, 0).answer == TUBE_DONE;
+        chip.held[c]++;
+        before = chip;
+        over = over && answers(tube_access(&chip, TUBE_HOST, TUBE_R1_STATUS, TUBE_READ, 0), TUBE_MISSING, 0)
+               && answers(tube_access(&chip, TUBE_PARASITE, TUBE_R1_DATA, TUBE_WRITE, 1), TUBE_MISSING, 0) && same_chip(chip, before);
+    }
+    expect("tube_access: a record one over a capacity", over);
+}
+
+/* ---- Scripts ---- */
+
+static int ended(TubePlayed p, size_t played, uint8_t answer) {
+    return p.played == played && p.answer == answer;
+}
+
+static void scripts(void) {
+    const uint8_t script[11] = {TUBE_HOST_WRITE, TUBE_R1_STATUS, TUBE_SET | TUBE_FLAG_Q, TUBE_PARASITE_WRITE, TUBE_R4_DATA, 0x2A, TUBE_HOST_READ, TUBE_R4_DATA, 0, TUBE_RESET, 0};
+    const char *text = "0 0 0\n0 0 1\n0 42 0\nend 3 0\n";
+    const size_t length = strlen(text);
+    const TubeChip chip = tube_new();
+    uint8_t *results = lend(&one), *out = lend(&two);
+
+    TubePlayed end = tube_play(chip, script, 9, 4096, results, 9);
+    expect("tube_play: the example script into results just long enough", ended(end, 3, TUBE_DONE) && kept(&one, 0, 9) && memcmp(results, "\0\0\0\0\0\1\0\52\0", 9) == 0
+                                                                              && end.chip.flags == TUBE_FLAG_Q && tube_lines(end.chip) == 0);
+    expect("tube_text: into a buffer just long enough", tube_text(results, 9, 3, end.answer, out, length) == length && memcmp(out, text, length) == 0 && kept(&two, 0, length));
+    out = lend(&two);
+    expect("tube_text: one byte short", tube_text(results, 9, 3, end.answer, out, length - 1) == 0 && tube_text(results, 9, 3, end.answer, out, 0) == 0 && kept(&two, 0, 0));
+    expect("tube_text: too few results", tube_text(results, 8, 3, 0, out, AREA) == 0 && tube_text(results, 0, 1, 0, out, AREA) == 0
+                                             && tube_text(results, 9, SIZE_MAX, 0, out, AREA) == 0 && tube_text(results, 9, SIZE_MAX / 3 + 1, 0, out, AREA) == 0 && kept(&two, 0, 0));
+    expect("tube_text: no results", tube_text(results, 0, 0, 255, out, 10) == 10 && memcmp(out, "end 0 255\n", 10) == 0 && kept(&two, 0, 10));
+    memset(results, 0xFF, 3);
+    out = lend(&two);
+    expect("tube_text: the largest numbers", tube_text(results, 3, 1, 255, out, AREA) == 22 && memcmp(out, "255 255 255\nend 1 255\n", 22) == 0 && kept(&two, 0, 22));
+
+    results = lend(&one);
+    TubePlayed tight = tube_play(chip, script, 9, 4096, results, 8), none = tube_play(chip, script, 9, SIZE_MAX, results, 0);
+    expect("tube_play: results one byte short", ended(tight, 0, TUBE_BUFFER_SHORT) && same_chip(tight.chip, chip) && ended(none, 0, TUBE_BUFFER_SHORT)
+                                                    && same_chip(none.chip, chip) && kept(&one, 0, 0));
+    expect("tube_play: nothing to play", ended(tube_play(chip, script, 0, 0, results, 0), 0, TUBE_DONE) && ended(tube_play(chip, script, 0, SIZE_MAX, results, 0), 0, TUBE_DONE)
+                                             && ended(tube_play(chip, script, 9, 0, results, 0), 0, TUBE_LIMIT_REACHED)
+                                             && ended(tube_play(chip, script, 2, 4096, results, 0), 0, TUBE_CUT_SHORT)
+                                             && ended(tube_play(chip, script, 2, 0, results, 0), 0, TUBE_LIMIT_REACHED) && kept(&one, 0, 0));
+    expect("tube_play: the limit and the last record", ended(tube_play(chip, script, 9, 2, results, AREA), 2, TUBE_LIMIT_REACHED) && kept(&one, 0, 6)
+                                                           && ended(tube_play(chip, script, 11, SIZE_MAX, results, AREA), 3, TUBE_CUT_SHORT) && kept(&one, 0, 9)
+                                                           && ended(tube_play(chip, script, 11, 3, results, AREA), 3, TUBE_LIMIT_REACHED));
+    TubeChip broken = chip;
+    broken.held[1] = 255;
+    const uint8_t mend[9] = {TUBE_HOST_READ, 0, 0, TUBE_RESET, 9, 9, 255, 0, 0};
+    results = lend(&one);
+    TubePlayed mended = tube_play(broken, mend, 9, 3, results, 9);
+    expect("tube_play: a record over its capacities, its reset, no such kind", ended(mended, 3, TUBE_DONE) && memcmp(results, "\1\0\0\0\0\0\1\0\0", 9) == 0 && same_chip(mended.chip, chip));
+}
+
+/* ---- Requests ---- */
+
+static int same_reader(TubeReader a, TubeReader b) {
     return a.count == b.count && a.carrier == b.carrier && a.phase == b.phase && a.escape == b.escape && a.style == b.style && a.code == b.code;
 }
+
+static int reads(TubeRead r, uint8_t kind, uint8_t value, uint8_t style, uint8_t code, size_t length) {
+    return r.kind == kind && r.value == value && r.style == style && r.code == code && r.length == length;
+}
+
+/* Raw bytes read one by one: what the last of them gives. Any answer before it that is not need-more spoils it. */
+static TubeRead each(TubeReader reader, const uint8_t *raw, size_t length, uint8_t *body) {
+    TubeRead r = {.reader = reader};
+    for (size_t i = 0; i < length; i++) {
+        if (r.kind != TUBE_NEED_MORE)
+            return (TubeRead){.kind = 0xFF};
+        r = tube_read(r.reader, raw[i], body);
+    }
+    return r;
+}
+
+static uint8_t letters[300], escapes[300];
+
+static TubeWritten request(TubeCall call, uint8_t a, size_t block, size_t text, uint8_t *out, size_t room) {
+    return tube_write_request(TUBE_SERIAL, 3, (uint8_t)call, 1, 2, a, 9, escapes, block, letters, text, out, room);
+}
+
+static int refuses(TubeWritten w, uint8_t answer) {
+    return w.answer == answer && w.length == 0;
+}
+
+static void requests_written(void) {
+    static const struct {
+        TubeCall call;
+        uint8_t a, code;
+        size_t block, text, length; /* of the whole encoding: every block byte is doubled */
+    } calls[TUBE_CALLS] = {
+        {TUBE_OSRDCH, 0, TUBE_CODE_OSRDCH, 0, 0, 2},
+        {TUBE_OSCLI, 0, TUBE_CODE_OSCLI, 0, 255, 2 + 256},
+        {TUBE_OSBYTE_LOW, 0x7F, TUBE_CODE_OSBYTE_LOW, 0, 0, 2 + 2},
+        {TUBE_OSBYTE_HIGH, 0x80, TUBE_CODE_OSBYTE_HIGH, 0, 0, 2 + 3},
+        {TUBE_OSWORD, 1, TUBE_CODE_OSWORD, 255, 0, 2 + 3 + 2 * 255},
+        {TUBE_OSWORD0, 0, TUBE_CODE_OSWORD0, 5, 0, 2 + 10},
+        {TUBE_OSARGS, 0, TUBE_CODE_OSARGS, 4, 0, 2 + 2 + 8},
+        {TUBE_OSBGET, 0, TUBE_CODE_OSBGET, 0, 0, 2 + 1},
+        {TUBE_OSBPUT, 0, TUBE_CODE_OSBPUT, 0, 0, 2 + 2},
+        {TUBE_OSFIND_CLOSE, 0, TUBE_CODE_OSFIND, 0, 0, 2 + 2},
+        {TUBE_OSFIND_OPEN, 0xC0, TUBE_CODE_OSFIND, 0, 255, 2 + 1 + 256},
+        {TUBE_OSFILE, 0xFF, TUBE_CODE_OSFILE, 16, 255, 2 + 32 + 256 + 1},
+        {TUBE_OSGBPB, 4, TUBE_CODE_OSGBPB, 13, 0, 2 + 26 + 1},
+    };
+    int exact = 1, tight = 1, again = 1, kinds = 1;
+    for (int i = 0; i < TUBE_CALLS; i++) {
+        uint8_t *out = lend(&one), *body = lend(&two);
+        const size_t length = calls[i].length;
+        tight = tight && refuses(request(calls[i].call, calls[i].a, calls[i].block, calls[i].text, out, length - 1), TUBE_BUFFER_SHORT)
+                && refuses(request(calls[i].call, calls[i].a, calls[i].block, calls[i].text, out, 0), TUBE_BUFFER_SHORT) && kept(&one, 0, 0);
+        TubeWritten w = request(calls[i].call, calls[i].a, calls[i].block, calls[i].text, out, length);
+        exact = exact && w.answer == TUBE_DONE && w.length == length && out[0] == TUBE_ESCAPE_BYTE && out[1] == (0x60 | calls[i].code) && kept(&one, 0, length);
+        TubeRead r = each(tube_reader(TUBE_SERIAL), out, length, body);
+        TubeFed fed = tube_feed(tube_reader(TUBE_SERIAL), out, length, body);
+        again = again && reads(r, TUBE_REQUEST, 0, 3, calls[i].code, r.length) && kept(&two, 0, r.length) && same_reader(r.reader, tube_reader(TUBE_SERIAL))
+                && reads(fed.read, TUBE_REQUEST, 0, 3, calls[i].code, r.length) && fed.used == length;
+        TubeKind kind = tube_kind_of(r.code, body, r.length);
+        kinds = kinds && kind.call == calls[i].call && kind.out_length == (calls[i].call == TUBE_OSWORD ? 9 : 0);
+    }
+    expect("tube_write_request: each call at its longest, just long enough", exact);
+    expect("tube_write_request: each call one byte short", tight);
+    expect("tube_read, tube_feed: each call at its longest", again);
+    expect("tube_kind_of: each call", kinds);
+
+    uint8_t *out = lend(&one);
+    TubeWritten w = tube_write_request(TUBE_PARALLEL, 0, TUBE_OSWORD0, 0, 0, 0, 0, escapes, 5, letters, 0, out, 6);
+    expect("tube_write_request: the parallel side has no escapes", w.answer == TUBE_DONE && w.length == 6 && out[0] == TUBE_CODE_OSWORD0 && memcmp(out + 1, escapes, 5) == 0 && kept(&one, 0, 6));
+
+    out = lend(&one);
+    uint8_t ended_text[2] = {'A', 0x0D};
+    int refused = refuses(request(TUBE_OSCLI, 0, 0, 256, out, AREA), TUBE_STRING_LONG) && refuses(request(TUBE_OSRDCH, 0, 0, 256, out, 0), TUBE_STRING_LONG)
+                  && refuses(request(TUBE_OSBYTE_LOW, 0x80, 0, 0, out, AREA), TUBE_BAD_FIELD) && refuses(request(TUBE_OSBYTE_HIGH, 0x7F, 0, 0, out, AREA), TUBE_BAD_FIELD)
+                  && refuses(request(TUBE_OSWORD, 0, 1, 0, out, AREA), TUBE_BAD_FIELD) && refuses(request(TUBE_OSWORD, 1, 256, 0, out, AREA), TUBE_BAD_FIELD)
+                  && refuses(request(TUBE_OSFIND_OPEN, 0, 0, 1, out, AREA), TUBE_BAD_FIELD) && refuses(request(TUBE_OSFILE, 0, 15, 1, out, AREA), TUBE_BAD_FIELD)
+                  && refuses(request(TUBE_OSGBPB, 0, 14, 0, out, 0), TUBE_BAD_FIELD) && refuses(request(TUBE_OSBGET, 0, 1, 0, out, AREA), TUBE_BAD_FIELD)
+                  && refuses(request(TUBE_OSBGET, 0, 0, 1, out, AREA), TUBE_BAD_FIELD)
+                  && refuses(tube_write_request(TUBE_SERIAL, 0, TUBE_OSCLI, 0, 0, 0, 0, letters, 0, ended_text, 2, out, AREA), TUBE_BAD_FIELD);
+    for (int i = 0; i < 256; i++) {
+        if (i >= TUBE_CALLS)
+            refused = refused && refuses(tube_write_request(TUBE_SERIAL, 0, (uint8_t)i, 0, 0, 0, 0, letters, 0, letters, 0, out, AREA), TUBE_BAD_FIELD);
+        if (i > TUBE_PARALLEL)
+            refused = refused && refuses(tube_write_request((uint8_t)i, 0, TUBE_OSRDCH, 0, 0, 0, 0, letters, 0, letters, 0, out, AREA), TUBE_BAD_FIELD);
+        if (i > 3)
+            refused = refused && refuses(tube_write_request(TUBE_SERIAL, (uint8_t)i, TUBE_OSRDCH, 0, 0, 0, 0, letters, 0, letters, 0, out, AREA), TUBE_BAD_FIELD);
+        if (i > 0)
+            refused = refused && refuses(tube_write_request(TUBE_PARALLEL, (uint8_t)i, TUBE_OSRDCH, 0, 0, 0, 0, letters, 0, letters, 0, out, AREA), TUBE_BAD_FIELD);
+    }
+    expect("tube_write_request: each refusal touches no byte", refused && kept(&one, 0, 0));
+
+    out = lend(&one);
+    memset(out, 0x9B, 1);
+    TubeKind empty = tube_kind_of(TUBE_CODE_OSWORD, out, 0), shut = tube_kind_of(TUBE_CODE_OSFIND, out, 0), other = tube_kind_of(0xFF, out, 1);
+    expect("tube_kind_of: no body, no such code", empty.call == TUBE_OSWORD && empty.out_length == 0 && shut.out_length == 0 && other.call == TUBE_OSRDCH && other.out_length == 0);
+}
+
+static void requests_read(void) {
+    const uint8_t wire[13] = {0x9B, 0x62, 'D', 0x9B, 0x9B, 'R', 0x0D, 'A', 0x9B, 0x0A, 0x9B, 0x00, 'B'};
+    int made = 1;
+    for (int i = 0; i < 256; i++) {
+        TubeReader r = tube_reader((uint8_t)i);
+        made = made && r.count == 0 && r.carrier == i && r.phase == TUBE_OUTSIDE && r.escape == 0 && r.style == 0 && r.code == 0;
+    }
+    expect("tube_reader: of every carrier", made);
+
+    const TubeReader fresh = tube_reader(TUBE_SERIAL);
+    uint8_t *body = lend(&one);
+    int characters = 1;
+    for (int i = 0; i < 256; i++) {
+        TubeRead r = tube_read(fresh, (uint8_t)i, body);
+        characters = characters && (i == TUBE_ESCAPE_BYTE ? reads(r, TUBE_NEED_MORE, 0, 0, 0, 0) && r.reader.escape == 1
+                                                          : reads(r, TUBE_CHARACTER, (uint8_t)i, 0, 0, 0) && same_reader(r.reader, fresh));
+    }
+    TubeRead doubled = each(fresh, (const uint8_t[2]){0x9B, 0x9B}, 2, body);
+    expect("tube_read: every character", characters && reads(doubled, TUBE_CHARACTER, 0x9B, 0, 0, 0) && kept(&one, 0, 0));
+
+    TubeRead taken = each(fresh, wire, 3, body);
+    expect("tube_read: a byte taken changes one lent byte", reads(taken, TUBE_NEED_MORE, 0, 0, 0, 0) && taken.reader.count == 1 && taken.reader.phase == TUBE_INSIDE
+                                                                && taken.reader.style == 3 && taken.reader.code == TUBE_CODE_OSCLI && body[0] == 'D' && kept(&one, 0, 1));
+
+    static uint8_t long_string[2 + 256] = {0x9B, TUBE_CODE_OSCLI};
+    memset(long_string + 2, 'x', 256);
+    body = lend(&one);
+    TubeRead six = each(fresh, long_string, 258, body);
+    TubeRead four = each(fresh, (const uint8_t[2]){0x9B, 0x18}, 2, body), five = each(fresh, (const uint8_t[4]){0x9B, 0x04, 0x9B, 0x02}, 4, body);
+    TubeRead nine = each(fresh, (const uint8_t[4]){0x9B, 0x04, 0x00, 0x80}, 4, body);
+    expect("tube_read: refusals 4, 5, 6, 9 stop the reader", reads(four, TUBE_REFUSED, TUBE_UNKNOWN_CODE, 0, 0, 0) && reads(five, TUBE_REFUSED, TUBE_MARK_INSIDE, 0, 0, 0)
+                                                                 && reads(six, TUBE_REFUSED, TUBE_STRING_LONG, 0, 0, 0) && reads(nine, TUBE_REFUSED, TUBE_BAD_FIELD, 0, 0, 0)
+                                                                 && four.reader.phase == TUBE_STOPPED_PHASE && five.reader.phase == TUBE_STOPPED_PHASE
+                                                                 && six.reader.phase == TUBE_STOPPED_PHASE && nine.reader.phase == TUBE_STOPPED_PHASE
+                                                                 && six.reader.count == 255 && kept(&one, 0, 255));
+    TubeRead unlisted = tube_read(tube_reader(TUBE_PARALLEL), 0x9B, body);
+    expect("tube_read: a first byte of the parallel side", reads(unlisted, TUBE_REFUSED, TUBE_UNKNOWN_CODE, 0, 0, 0)
+                                                               && reads(tube_read(tube_reader(TUBE_PARALLEL), 0, body), TUBE_REQUEST, 0, 0, 0, 0));
+
+    TubeReader odd[7] = {fresh, fresh, fresh, taken.reader, taken.reader, taken.reader, six.reader};
+    odd[0].phase = 3;
+    odd[1].carrier = 2;
+    odd[2].phase = 0xFF;
+    odd[3].style = 4;
+    odd[4].code = 0x18;
+    odd[5].count = SIZE_MAX;
+    body = lend(&one);
+    int stopped = 1;
+    for (int i = 0; i < 7; i++) {
+        TubeRead r = tube_read(odd[i], 'A', body);
+        TubeFed fed = tube_feed(odd[i], wire, 7, body), none = tube_feed(odd[i], wire, 0, body);
+        stopped = stopped && reads(r, TUBE_REFUSED, TUBE_STOPPED, 0, 0, 0) && same_reader(r.reader, odd[i]) && reads(fed.read, TUBE_REFUSED, TUBE_STOPPED, 0, 0, 0) && fed.used == 1
+                  && same_reader(fed.read.reader, odd[i]) && reads(none.read, TUBE_NEED_MORE, 0, 0, 0, 0) && none.used == 0 && same_reader(none.read.reader, odd[i]);
+    }
+    expect("tube_read, tube_feed: a stopped reader and one beyond its limits", stopped && kept(&one, 0, 0));
+
+    /* The request in two slices, cut inside an escape pair; behind it a character, then a mark inside a request. */
+    TubeFed none = tube_feed(fresh, wire, 0, body), first = tube_feed(fresh, wire, 4, body);
+    expect("tube_feed: an empty slice, one that ends first", reads(none.read, TUBE_NEED_MORE, 0, 0, 0, 0) && none.used == 0 && same_reader(none.read.reader, fresh)
+                                                                 && reads(first.read, TUBE_NEED_MORE, 0, 0, 0, 0) && first.used == 4 && first.read.reader.count == 1
+                                                                 && first.read.reader.escape == 1 && kept(&one, 0, 1));
+    TubeFed second = tube_feed(first.read.reader, wire + 4, 9, body), character = tube_feed(second.read.reader, wire + 7, 6, body);
+    TubeFed inside = tube_feed(character.read.reader, wire + 8, 5, body);
+    expect("tube_feed: a request, a character and a refusal before the end", reads(second.read, TUBE_REQUEST, 0, 3, TUBE_CODE_OSCLI, 4) && second.used == 3
+                                                                                 && memcmp(body, "D\x9BR\x0D", 4) == 0 && reads(character.read, TUBE_CHARACTER, 'A', 0, 0, 0)
+                                                                                 && character.used == 1 && reads(inside.read, TUBE_REFUSED, TUBE_MARK_INSIDE, 0, 0, 0)
+                                                                                 && inside.used == 4 && kept(&one, 0, 4));
+}
+
+/* ---- The link ---- */
 
 static int same_link(TubeLink a, TubeLink b) {
     return a.got == b.got && a.held == b.held && a.wait == b.wait && a.out_length == b.out_length && a.escape == b.escape && a.action == b.action
@@ -33,16 +377,220 @@ static TubeTold stepped(TubeLink link, const uint8_t *raw, size_t length, uint8_
     return t;
 }
 
-static TubeWritten reply_to(TubeCall call, TubeReplyForm reply, const uint8_t *block, size_t block_length, const uint8_t *text, size_t text_length,
-                            uint8_t *out, size_t room) {
-    return tube_write_reply(call, 3, reply, 2, 0x33, 0x22, 0x41, block, block_length, text, text_length, out, room);
+/* Links that are stopped or beyond a limit. */
+static TubeLink odd_link(int i) {
+    TubeLink odd = tube_link();
+    switch (i) {
+    case 0: odd.wait = TUBE_CALLS + 1; break;
+    case 1: odd.action = TUBE_IN_ADDRESS + 1; break;
+    case 2: odd.stopped = 9; break;
+    case 3: odd.got = 1; break;
+    case 4: odd.held = SIZE_MAX; break;
+    case 5: odd.wait = 1 + TUBE_OSBGET, odd.got = 2; break;
+    case 6: odd.action = TUBE_IN_ERROR, odd.held = TUBE_OWN_LENGTH; break;
+    default: odd.wait = 1 + TUBE_OSWORD; break; /* with out length 0 */
+    }
+    return odd;
 }
 
-static int writes(TubeWritten w, const uint8_t *out, const char *bytes, size_t length) {
-    return w.answer == TUBE_DONE && w.length == length && memcmp(out, bytes, length) == 0;
+enum { ODD_LINKS = 8 };
+
+static void calls_begun(void) {
+    const TubeLink fresh = tube_link();
+    TubeLink nothing;
+    memset(&nothing, 0, sizeof nothing);
+    expect("tube_link: idle", same_link(fresh, nothing));
+
+    int begun = 1, denied = 1;
+    for (int i = 0; i < 256; i++) {
+        TubeBegun b = tube_begin(fresh, (uint8_t)i, 255);
+        if (i < TUBE_CALLS) {
+            TubeLink waiting = fresh;
+            waiting.wait = (uint8_t)(1 + i);
+            waiting.out_length = i == TUBE_OSWORD ? 255 : 0;
+            begun = begun && b.kind == TUBE_BEGUN && b.answer == 0 && same_link(b.link, waiting);
+        } else
+            denied = denied && b.kind == TUBE_DENIED && b.answer == TUBE_STOPPED && same_link(b.link, fresh);
+    }
+    TubeBegun complete = tube_begin(fresh, TUBE_OSWORD, 0);
+    expect("tube_begin: each call", begun && complete.kind == TUBE_COMPLETE && complete.answer == 0 && same_link(complete.link, fresh));
+    TubeLink waits = tube_begin(fresh, TUBE_OSBGET, 0).link;
+    TubeBegun second = tube_begin(waits, TUBE_OSWORD, 0);
+    denied = denied && second.kind == TUBE_DENIED && second.answer == TUBE_CALL_WAITS && same_link(second.link, waits);
+    for (int i = 0; i < ODD_LINKS; i++) {
+        TubeBegun b = tube_begin(odd_link(i), TUBE_OSBGET, 0);
+        denied = denied && b.kind == TUBE_DENIED && b.answer == TUBE_STOPPED && same_link(b.link, odd_link(i));
+    }
+    expect("tube_begin: no such call, another waits, stopped", denied);
 }
 
-static int reads(TubeGiven g, uint8_t reply, uint8_t carry, uint8_t x, uint8_t y, uint8_t a) {
+static void steps(void) {
+    const TubeLink fresh = tube_link(), waits = tube_begin(fresh, TUBE_OSBGET, 7).link;
+    uint8_t *reply = lend(&one), *own = lend(&two);
+    int characters = 1;
+    for (int i = 0; i < 256; i++) {
+        TubeTold t = tube_link_step(fresh, (uint8_t)i, reply, own);
+        characters = characters && (i == TUBE_ESCAPE_BYTE ? told(t, TUBE_TOLD_MORE, 0, 0, 0, 0, 0) && t.link.escape == 1
+                                                          : told(t, TUBE_TOLD_CHARACTER, 0, (uint8_t)i, 0, 0, 0) && same_link(t.link, fresh));
+    }
+    TubeTold doubled = stepped(fresh, (const uint8_t[2]){0x9B, 0x9B}, 2, reply, own);
+    expect("tube_link_step: every character while idle", characters && told(doubled, TUBE_TOLD_CHARACTER, 0, 0x9B, 0, 0, 0) && kept(&one, 0, 0) && kept(&two, 0, 0));
+
+    int actions = told(stepped(fresh, (const uint8_t[2]){0x9B, 0x8F}, 2, reply, own), TUBE_TOLD_ESCAPE, 0, 1, 0, 0, 0)
+                  && told(stepped(fresh, (const uint8_t[2]){0x9B, 0x80}, 2, reply, own), TUBE_TOLD_ESCAPE, 0, 0, 0, 0, 0) && kept(&two, 0, 0)
+                  && told(stepped(fresh, (const uint8_t[5]){0x9B, 0x90, 1, 2, 3}, 5, reply, own), TUBE_TOLD_EVENT, 0, 1, 2, 3, 0) && kept(&two, 0, 3)
+                  && told(stepped(fresh, (const uint8_t[6]){0x9B, 0xCF, 1, 2, 3, 4}, 6, reply, own), TUBE_TOLD_ADDRESS, 0, 1, 2, 3, 4) && kept(&two, 0, 4);
+    expect("tube_link_step: the Escape state, an event, an address", actions && kept(&one, 0, 0));
+
+    static uint8_t error[2 + 1 + 256] = {0x9B, 0x00, 17};
+    memset(error + 3, 'x', 256);
+    own = lend(&two);
+    TubeTold six = stepped(waits, error, sizeof error, reply, own);
+    int refused = told(six, TUBE_TOLD_REFUSED, 0, TUBE_STRING_LONG, 0, 0, 0) && six.link.stopped == 1 && six.link.held == 256 && kept(&two, 0, 256);
+    error[sizeof error - 1] = 0;
+    own = lend(&two);
+    TubeTold longest = stepped(waits, error, sizeof error, reply, own);
+    int ends = told(longest, TUBE_TOLD_ERROR, 255, 17, 0, 0, 0) && own[0] == 17 && memcmp(own + 1, error + 3, 256) == 0 && kept(&two, 0, TUBE_OWN_LENGTH) && same_link(longest.link, fresh);
+    TubeTold restart = stepped(waits, (const uint8_t[4]){0x9B, 0, 0, 0}, 4, reply, own), empty = stepped(waits, (const uint8_t[4]){0x9B, 0, 1, 0}, 4, reply, own);
+    expect("tube_link_step: errors of 255 and 0 bytes and a restart end the call", ends && told(restart, TUBE_TOLD_RESTART, 0, 0, 0, 0, 0) && same_link(restart.link, fresh)
+                                                                                       && told(empty, TUBE_TOLD_ERROR, 0, 1, 0, 0, 0) && kept(&one, 0, 0));
+    TubeLink stopped = waits;
+    stopped.escape = 1;
+    stopped.stopped = 1;
+    own = lend(&two);
+    TubeTold four = stepped(waits, (const uint8_t[2]){0x9B, 0x01}, 2, reply, own);
+    refused = refused && told(four, TUBE_TOLD_REFUSED, 0, TUBE_UNKNOWN_CODE, 0, 0, 0) && same_link(four.link, stopped) && kept(&two, 0, 0);
+    TubeTold five = stepped(waits, (const uint8_t[4]){0x9B, 0x90, 0x9B, 0x80}, 4, reply, own);
+    expect("tube_link_step: refusals 4, 5, 6 stop the link", refused && told(five, TUBE_TOLD_REFUSED, 0, TUBE_MARK_INSIDE, 0, 0, 0) && five.link.stopped == 1);
+
+    static uint8_t line[TUBE_REPLY_LENGTH];
+    memset(line, 'x', sizeof line);
+    line[TUBE_REPLY_LENGTH - 1] = 0x0D;
+    reply = lend(&one), own = lend(&two);
+    TubeTold whole = stepped(tube_begin(fresh, TUBE_OSWORD0, 0).link, line, sizeof line, reply, own);
+    int lines = told(whole, TUBE_TOLD_REPLY, TUBE_REPLY_LENGTH, 0, 0, 0, 0) && memcmp(reply, line, sizeof line) == 0 && kept(&one, 0, TUBE_REPLY_LENGTH) && kept(&two, 0, 0);
+    line[TUBE_REPLY_LENGTH - 1] = 'x';
+    reply = lend(&one);
+    TubeTold over = stepped(tube_begin(fresh, TUBE_OSWORD0, 0).link, line, sizeof line, reply, own);
+    expect("tube_link_step: a line of 255 bytes and one of 256", lines && told(over, TUBE_TOLD_REFUSED, 0, TUBE_STRING_LONG, 0, 0, 0) && kept(&one, 0, 256));
+
+    int given = 1;
+    reply = lend(&one), own = lend(&two);
+    for (int i = 0; i < ODD_LINKS; i++) {
+        TubeTold t = tube_link_step(odd_link(i), 'A', reply, own);
+        given = given && told(t, TUBE_TOLD_REFUSED, 0, TUBE_STOPPED, 0, 0, 0) && same_link(t.link, odd_link(i));
+    }
+    expect("tube_link_step: a stopped link and one beyond its limits", given && kept(&one, 0, 0) && kept(&two, 0, 0));
+}
+
+static int ran(TubeRan r, uint8_t kind, size_t length, uint8_t first, size_t used, size_t noted) {
+    return told(r.told, kind, length, first, 0, 0, 0) && r.used == used && r.noted == noted;
+}
+
+static void runs(void) {
+    const TubeLink fresh = tube_link(), waits = tube_begin(fresh, TUBE_OSBGET, 7).link;
+    /* The reply to OSBGET with the Escape state inside it, and a byte behind it that stays for the next call. */
+    const uint8_t mixed[5] = {0x80, 0x9B, 0x81, 0x41, 'Z'}, note[TUBE_NOTE] = {TUBE_TOLD_ESCAPE, 1, 0, 0, 0};
+    uint8_t *reply = lend(&one), *own = lend(&two), *room = lend(&three);
+    TubeRan whole = tube_run(waits, mixed, 5, reply, own, room, 5 * TUBE_NOTE);
+    expect("tube_run: a reply with an action inside it, room just long enough", ran(whole, TUBE_TOLD_REPLY, 2, 0, 4, 1) && same_link(whole.told.link, fresh)
+                                                                                    && memcmp(room, note, TUBE_NOTE) == 0 && kept(&three, 0, TUBE_NOTE)
+                                                                                    && reply[0] == 0x80 && reply[1] == 0x41 && kept(&one, 0, 2) && kept(&two, 0, 0));
+    reply = lend(&one), room = lend(&three);
+    TubeRan tight = tube_run(waits, mixed, 5, reply, own, room, 5 * TUBE_NOTE - 1), no_room = tube_run(waits, mixed, 1, reply, own, room, 0);
+    expect("tube_run: room one byte short", ran(tight, TUBE_TOLD_REFUSED, 0, TUBE_BUFFER_SHORT, 0, 0) && same_link(tight.told.link, waits)
+                                                && ran(no_room, TUBE_TOLD_REFUSED, 0, TUBE_BUFFER_SHORT, 0, 0) && kept(&one, 0, 0) && kept(&three, 0, 0));
+    TubeRan none = tube_run(waits, mixed, 0, reply, own, room, 0), rest = tube_run(fresh, mixed + 4, 1, reply, own, room, TUBE_NOTE);
+    expect("tube_run: an empty slice, one that ends first", ran(none, TUBE_TOLD_MORE, 0, 0, 0, 0) && same_link(none.told.link, waits) && ran(rest, TUBE_TOLD_MORE, 0, 0, 1, 1)
+                                                                && room[0] == TUBE_TOLD_CHARACTER && room[1] == 'Z' && room[2] == 0 && kept(&three, 0, TUBE_NOTE));
+    const uint8_t error[7] = {0x9B, 0x00, 17, 'N', 'o', 0, 'Z'}, restart[4] = {0x9B, 0, 0, 0}, bad[3] = {'Y', 0x9B, 0x01};
+    room = lend(&three);
+    TubeRan failing = tube_run(waits, error, 7, reply, own, room, AREA), again = tube_run(waits, restart, 4, reply, own, room, AREA);
+    int ends = ran(failing, TUBE_TOLD_ERROR, 2, 17, 6, 0) && ran(again, TUBE_TOLD_RESTART, 0, 0, 4, 0) && kept(&three, 0, 0);
+    TubeRan refused = tube_run(fresh, bad, 3, reply, own, room, AREA);
+    expect("tube_run: an error, a restart and a refusal end it", ends && ran(refused, TUBE_TOLD_REFUSED, 0, TUBE_UNKNOWN_CODE, 3, 1) && kept(&three, 0, TUBE_NOTE));
+
+    int given = 1;
+    reply = lend(&one), own = lend(&two), room = lend(&three);
+    for (int i = 0; i < ODD_LINKS; i++) {
+        TubeRan byte = tube_run(odd_link(i), mixed, 5, reply, own, room, AREA), empty = tube_run(odd_link(i), mixed, 0, reply, own, room, 0);
+        TubeRan shorter = tube_run(odd_link(i), mixed, 1, reply, own, room, TUBE_NOTE - 1);
+        given = given && ran(byte, TUBE_TOLD_REFUSED, 0, TUBE_STOPPED, 1, 0) && same_link(byte.told.link, odd_link(i)) && ran(empty, TUBE_TOLD_MORE, 0, 0, 0, 0)
+                && same_link(empty.told.link, odd_link(i)) && ran(shorter, TUBE_TOLD_REFUSED, 0, TUBE_BUFFER_SHORT, 0, 0) && same_link(shorter.told.link, odd_link(i));
+    }
+    expect("tube_run: a stopped link and one beyond its limits", given && kept(&one, 0, 0) && kept(&two, 0, 0) && kept(&three, 0, 0));
+}
+
+/* ---- Replies ---- */
+
+static TubeWritten reply_to(TubeCall call, TubeReplyForm reply, const uint8_t *block, size_t block_length, size_t text_length, uint8_t *out, size_t room) {
+    return tube_write_reply((uint8_t)call, 3, (uint8_t)reply, 2, 0x33, 0x22, 0x41, block, block_length, letters, text_length, out, room);
+}
+
+static void replies_written(void) {
+    static const uint8_t block[16] = {1, 2, 3, 0x9B, 5, 6, 7, 8, 9, 10, 11, 12, 13, 14, 15, 16};
+    /* With carry 2, X &33, Y &22, A &41 and an out length of 3. */
+    static const struct {
+        TubeCall call;
+        TubeReplyForm reply;
+        size_t block, text, length;
+        const char *bytes;
+    } forms[14] = {
+        {TUBE_OSRDCH, TUBE_REPLY_CARRY_A, 0, 0, 2, "\x80\x41"},
+        {TUBE_OSCLI, TUBE_REPLY_ACK, 0, 0, 1, "\x80"},
+        {TUBE_OSBYTE_LOW, TUBE_REPLY_BYTE, 0, 0, 1, "\x41"},
+        {TUBE_OSBYTE_HIGH, TUBE_REPLY_CARRY_YX, 0, 0, 3, "\x80\x22\x33"},
+        {TUBE_OSWORD, TUBE_REPLY_BLOCK, 3, 0, 3, "\x01\x02\x03"},
+        {TUBE_OSWORD0, TUBE_REPLY_ESCAPED_LINE, 0, 0, 1, "\xFF"},
+        {TUBE_OSWORD0, TUBE_REPLY_READ_LINE, 0, 2, 4, "\x7F" "AB\x0D"},
+        {TUBE_OSARGS, TUBE_REPLY_A_BLOCK, 4, 0, 6, "\x41\x01\x02\x03\x9B\x9B"},
+        {TUBE_OSBGET, TUBE_REPLY_CARRY_A, 0, 0, 2, "\x80\x41"},
+        {TUBE_OSBPUT, TUBE_REPLY_PLAIN, 0, 0, 1, "\x7F"},
+        {TUBE_OSFIND_CLOSE, TUBE_REPLY_PLAIN, 0, 0, 1, "\x7F"},
+        {TUBE_OSFIND_OPEN, TUBE_REPLY_BYTE, 0, 0, 1, "\x41"},
+        {TUBE_OSFILE, TUBE_REPLY_A_BLOCK, 16, 0, 18, "\x41\x01\x02\x03\x9B\x9B\x05\x06\x07\x08\x09\x0A\x0B\x0C\x0D\x0E\x0F\x10"},
+        {TUBE_OSGBPB, TUBE_REPLY_BLOCK_CARRY_A, 13, 0, 16, "\x01\x02\x03\x9B\x9B\x05\x06\x07\x08\x09\x0A\x0B\x0C\x0D\x80\x41"},
+    };
+    int exact = 1, tight = 1, fitting = 1;
+    for (int i = 0; i < 14; i++) {
+        uint8_t *out = lend(&one);
+        const size_t length = forms[i].length;
+        tight = tight && refuses(reply_to(forms[i].call, forms[i].reply, block, forms[i].block, forms[i].text, out, length - 1), TUBE_BUFFER_SHORT)
+                && refuses(reply_to(forms[i].call, forms[i].reply, block, forms[i].block, forms[i].text, out, 0), TUBE_BUFFER_SHORT) && kept(&one, 0, 0);
+        TubeWritten w = reply_to(forms[i].call, forms[i].reply, block, forms[i].block, forms[i].text, out, length);
+        exact = exact && w.answer == TUBE_DONE && w.length == length && memcmp(out, forms[i].bytes, length) == 0 && kept(&one, 0, length);
+        out = lend(&one);
+        for (unsigned form = 0; form < 256; form++) {
+            int line = forms[i].call == TUBE_OSWORD0 && (form == TUBE_REPLY_ESCAPED_LINE || form == TUBE_REPLY_READ_LINE);
+            if (form != forms[i].reply && !line)
+                fitting = fitting && refuses(reply_to(forms[i].call, (TubeReplyForm)form, block, forms[i].block, forms[i].text, out, AREA), TUBE_BAD_FIELD);
+        }
+        fitting = fitting && refuses(reply_to(forms[i].call, forms[i].reply, block, forms[i].block + 1, forms[i].text, out, AREA), TUBE_BAD_FIELD)
+                  && refuses(reply_to(forms[i].call, forms[i].reply, block, forms[i].block, 256, out, 0), TUBE_STRING_LONG) && kept(&one, 0, 0);
+    }
+    expect("tube_write_reply: each call and form, just long enough", exact);
+    expect("tube_write_reply: each call and form one byte short", tight);
+    expect("tube_write_reply: another form, another block, a long line", fitting);
+
+    uint8_t *out = lend(&one);
+    TubeWritten none = tube_write_reply(TUBE_OSWORD, 0, TUBE_REPLY_BLOCK, 0, 0, 0, 0, block, 0, letters, 0, out, 0);
+    expect("tube_write_reply: no byte into an empty buffer", none.answer == TUBE_DONE && none.length == 0 && kept(&one, 0, 0));
+    TubeWritten most = tube_write_reply(TUBE_OSWORD, 255, TUBE_REPLY_BLOCK, 0, 0, 0, 0, escapes, 255, letters, 0, out, 510);
+    TubeLink word = tube_begin(tube_link(), TUBE_OSWORD, 255).link;
+    TubeRan back = tube_run(word, out, 510, lend(&two), three.area + GUARD, lend(&three) + TUBE_OWN_LENGTH, 510 * TUBE_NOTE);
+    expect("tube_write_reply: 255 bytes that are all doubled, and read again", most.answer == TUBE_DONE && most.length == 510 && kept(&one, 0, 510)
+                                                                                  && ran(back, TUBE_TOLD_REPLY, 255, 0, 510, 0) && memcmp(two.area + GUARD, escapes, 255) == 0
+                                                                                  && kept(&two, 0, 255) && kept(&three, 0, 0));
+    out = lend(&one);
+    uint8_t ended_line[2] = {'A', 0x0D};
+    int refused = refuses(tube_write_reply(TUBE_OSWORD0, 0, TUBE_REPLY_READ_LINE, 0, 0, 0, 0, block, 0, ended_line, 2, out, AREA), TUBE_BAD_FIELD);
+    for (int i = TUBE_CALLS; i < 256; i++)
+        refused = refused && refuses(tube_write_reply((uint8_t)i, 0, TUBE_REPLY_PLAIN, 0, 0, 0, 0, block, 0, letters, 0, out, AREA), TUBE_BAD_FIELD)
+                  && refuses(tube_write_reply((uint8_t)i, 0, TUBE_REPLY_NONE, 0, 0, 0, 0, block, 0, letters, 256, out, AREA), TUBE_STRING_LONG);
+    expect("tube_write_reply: a return in the line, no such call", refused && kept(&one, 0, 0));
+}
+
+static int gives(TubeGiven g, uint8_t reply, uint8_t carry, uint8_t x, uint8_t y, uint8_t a) {
     return g.reply == reply && g.carry == carry && g.x == x && g.y == y && g.a == a;
 }
 
@@ -50,231 +598,51 @@ static int lies(TubeGiven g, size_t block_start, size_t block_length, size_t tex
     return g.block_start == block_start && g.block_length == block_length && g.text_start == text_start && g.text_length == text_length;
 }
 
-static void link_and_replies(void) {
-    uint8_t reply[TUBE_LENT] = {0}, own[TUBE_LENT] = {0}, room[8 * TUBE_NOTE], out[16];
-    const TubeLink fresh = tube_link();
-    expect("layout of the link", sizeof(TubeLink) == 24 && offsetof(TubeLink, held) == 8 && offsetof(TubeLink, wait) == 16 && offsetof(TubeLink, stopped) == 20
-                                     && sizeof(TubeTold) == 40 && offsetof(TubeTold, length) == 24 && offsetof(TubeTold, kind) == 32
-                                     && offsetof(TubeTold, fourth) == 36 && sizeof(TubeBegun) == 32 && offsetof(TubeBegun, kind) == 24
-                                     && offsetof(TubeBegun, answer) == 25 && sizeof(TubeRan) == 56 && offsetof(TubeRan, used) == 40
-                                     && offsetof(TubeRan, noted) == 48);
-    expect("layout of the replies", sizeof(TubeGiven) == 40 && offsetof(TubeGiven, text_start) == 16 && offsetof(TubeGiven, reply) == 32
-                                        && offsetof(TubeGiven, a) == 36 && sizeof(TubeKind) == 2 && offsetof(TubeKind, out_length) == 1
-                                        && sizeof(TubeWritten) == 16 && offsetof(TubeWritten, answer) == 8);
-    expect("a fresh link", same_link(fresh, (TubeLink){0}));
-
-    TubeLink odd[3] = {fresh, fresh, fresh};
-    odd[0].wait = 14;
-    odd[1].action = 4;
-    odd[2].stopped = 9;
-
-    TubeBegun waits = tube_begin(fresh, TUBE_OSBGET, 7);
-    TubeBegun second = tube_begin(waits.link, TUBE_OSRDCH, 0);
-    TubeBegun complete = tube_begin(fresh, TUBE_OSWORD, 0);
-    TubeBegun word = tube_begin(fresh, TUBE_OSWORD, 3);
-    TubeBegun last = tube_begin(fresh, TUBE_OSGBPB, 0);
-    TubeBegun none = tube_begin(fresh, TUBE_OSGBPB + 1, 0);
-    expect("a call begun", waits.kind == TUBE_BEGUN && waits.answer == 0 && waits.link.wait == TUBE_OSBGET + 1 && waits.link.out_length == 0
-                               && complete.kind == TUBE_COMPLETE && complete.answer == 0 && same_link(complete.link, fresh)
-                               && word.kind == TUBE_BEGUN && word.link.wait == TUBE_OSWORD + 1 && word.link.out_length == 3
-                               && last.kind == TUBE_BEGUN && last.link.wait == 13);
-    expect("a call denied", second.kind == TUBE_DENIED && second.answer == TUBE_CALL_WAITS && same_link(second.link, waits.link)
-                                && none.kind == TUBE_DENIED && none.answer == TUBE_STOPPED && same_link(none.link, fresh));
-    int denied = 1;
-    for (int i = 0; i < 3; i++) {
-        TubeBegun b = tube_begin(odd[i], TUBE_OSBGET, 0);
-        denied = denied && b.kind == TUBE_DENIED && b.answer == TUBE_STOPPED && same_link(b.link, odd[i]);
+static void replies_read(void) {
+    const uint8_t flags[17] = {0xC1, 0x22, 0x33, 4, 5, 6, 7, 8, 9, 10, 11, 12, 13, 0xFF, 0x41, 0, 0}, got[4] = {0x00, 'H', 'i', 0x0D};
+    TubeGiven word = tube_read_reply(TUBE_OSWORD, 3, flags, 3), line = tube_read_reply(TUBE_OSWORD0, 0, got, 4), escaped = tube_read_reply(TUBE_OSWORD0, 0, flags, 1);
+    TubeGiven args = tube_read_reply(TUBE_OSARGS, 0, flags, 5), file = tube_read_reply(TUBE_OSFILE, 0, flags, 17), gbpb = tube_read_reply(TUBE_OSGBPB, 0, flags, 15);
+    expect("tube_read_reply: each call", gives(tube_read_reply(TUBE_OSRDCH, 0, flags, 2), TUBE_REPLY_CARRY_A, 1, 0, 0, 0x22)
+                                             && gives(tube_read_reply(TUBE_OSCLI, 0, flags, 1), TUBE_REPLY_ACK, 1, 0, 0, 0)
+                                             && gives(tube_read_reply(TUBE_OSBYTE_LOW, 0, flags, 1), TUBE_REPLY_BYTE, 0, 0, 0, 0xC1)
+                                             && gives(tube_read_reply(TUBE_OSBYTE_HIGH, 0, flags, 3), TUBE_REPLY_CARRY_YX, 1, 0x33, 0x22, 0)
+                                             && gives(word, TUBE_REPLY_BLOCK, 0, 0, 0, 0) && lies(word, 0, 3, 0, 0)
+                                             && gives(escaped, TUBE_REPLY_ESCAPED_LINE, 0, 0, 0, 0) && lies(escaped, 0, 0, 0, 0)
+                                             && gives(line, TUBE_REPLY_READ_LINE, 0, 0, 0, 0) && lies(line, 0, 0, 1, 2)
+                                             && gives(args, TUBE_REPLY_A_BLOCK, 0, 0, 0, 0xC1) && lies(args, 1, 4, 0, 0)
+                                             && gives(tube_read_reply(TUBE_OSBGET, 0, flags, 2), TUBE_REPLY_CARRY_A, 1, 0, 0, 0x22)
+                                             && gives(tube_read_reply(TUBE_OSBPUT, 0, flags, 1), TUBE_REPLY_PLAIN, 0, 0, 0, 0)
+                                             && gives(tube_read_reply(TUBE_OSFIND_CLOSE, 0, flags, 1), TUBE_REPLY_PLAIN, 0, 0, 0, 0)
+                                             && gives(tube_read_reply(TUBE_OSFIND_OPEN, 0, flags, 1), TUBE_REPLY_BYTE, 0, 0, 0, 0xC1)
+                                             && gives(file, TUBE_REPLY_A_BLOCK, 0, 0, 0, 0xC1) && lies(file, 1, 16, 0, 0)
+                                             && gives(gbpb, TUBE_REPLY_BLOCK_CARRY_A, 1, 0, 0, 0x41) && lies(gbpb, 0, 13, 0, 0));
+    TubeGiven longest = tube_read_reply(TUBE_OSWORD0, 0, letters, TUBE_REPLY_LENGTH), most = tube_read_reply(TUBE_OSWORD, 255, escapes, 255);
+    expect("tube_read_reply: a line and a block of 255 bytes", gives(longest, TUBE_REPLY_READ_LINE, 0, 0, 0, 0) && lies(longest, 0, 0, 1, 255)
+                                                                   && gives(most, TUBE_REPLY_BLOCK, 0, 0, 0, 0) && lies(most, 0, 255, 0, 0));
+    int missing = 1;
+    for (int i = 0; i < 256; i++) {
+        TubeGiven g = tube_read_reply((uint8_t)i, 255, flags, 0);
+        missing = missing && lies(g, 0, 0, 0, 0) && gives(g, g.reply, 0, 0, 0, 0) && (i < TUBE_CALLS ? g.reply < TUBE_REPLY_NONE : g.reply == TUBE_REPLY_NONE);
     }
-    expect("a call on a stopped link", denied);
-
-    /* A character, the Escape state on and off, an event, an address, an error, a restart; each by the byte. */
-    const uint8_t escape[2] = {0x9B, 0x8F}, event[5] = {0x9B, 0x90, 1, 2, 3}, address[6] = {0x9B, 0xCF, 1, 2, 3, 4};
-    const uint8_t error[6] = {0x9B, 0x00, 17, 'N', 'o', 0}, restart[4] = {0x9B, 0x00, 0, 0};
-    TubeTold half = tube_link_step(fresh, 0x9B, reply, own);
-    TubeTold doubled = tube_link_step(half.link, 0x9B, reply, own);
-    expect("bytes while idle", told(half, TUBE_TOLD_MORE, 0, 0, 0, 0, 0) && half.link.escape == 1
-                                   && told(doubled, TUBE_TOLD_CHARACTER, 0, 0x9B, 0, 0, 0) && same_link(doubled.link, fresh));
-    expect("actions while idle", told(stepped(fresh, escape, 2, reply, own), TUBE_TOLD_ESCAPE, 0, 1, 0, 0, 0)
-                                     && told(stepped(fresh, event, 5, reply, own), TUBE_TOLD_EVENT, 0, 1, 2, 3, 0)
-                                     && told(stepped(fresh, address, 6, reply, own), TUBE_TOLD_ADDRESS, 0, 1, 2, 3, 4));
-    TubeTold failed_call = stepped(waits.link, error, 6, reply, own);
-    int text = memcmp(own + 1, "No", 2) == 0;
-    expect("an error and a restart end the call", told(failed_call, TUBE_TOLD_ERROR, 2, 17, 0, 0, 0) && text && same_link(failed_call.link, fresh)
-                                                      && told(stepped(waits.link, restart, 4, reply, own), TUBE_TOLD_RESTART, 0, 0, 0, 0, 0));
-    const uint8_t bad[2] = {0x9B, 0x01};
-    TubeTold refused = stepped(waits.link, bad, 2, reply, own);
-    TubeLink stopped = waits.link;
-    stopped.escape = 1;
-    stopped.stopped = 1;
-    expect("a refusal stops the link", told(refused, TUBE_TOLD_REFUSED, 0, TUBE_UNKNOWN_CODE, 0, 0, 0) && same_link(refused.link, stopped));
-    int kept = 1;
-    for (int i = 0; i < 3; i++) {
-        TubeTold t = tube_link_step(odd[i], 'A', reply, own);
-        kept = kept && told(t, TUBE_TOLD_REFUSED, 0, TUBE_STOPPED, 0, 0, 0) && same_link(t.link, odd[i]);
-    }
-    expect("a byte to a stopped link", kept);
-
-    /* The reply to OSBGET with the Escape state inside it, and a byte behind it that stays for the next call. */
-    const uint8_t mixed[5] = {0x80, 0x9B, 0x81, 0x41, 'Z'};
-    memset(room, 0xEE, sizeof room);
-    memset(reply, 0, sizeof reply);
-    TubeRan ran = tube_run(waits.link, mixed, 5, reply, own, room, sizeof room);
-    const uint8_t note[TUBE_NOTE] = {TUBE_TOLD_ESCAPE, 1, 0, 0, 0};
-    expect("a reply with an action inside it", told(ran.told, TUBE_TOLD_REPLY, 2, 0, 0, 0, 0) && ran.used == 4 && ran.noted == 1 && same_link(ran.told.link, fresh)
-                                                   && memcmp(room, note, TUBE_NOTE) == 0 && room[TUBE_NOTE] == 0xEE && reply[0] == 0x80 && reply[1] == 0x41
-                                                   && reply[2] == 0);
-    TubeRan rest = tube_run(ran.told.link, mixed + 4, 1, reply, own, room, TUBE_NOTE);
-    expect("a slice that ends first", told(rest.told, TUBE_TOLD_MORE, 0, 0, 0, 0, 0) && rest.used == 1 && rest.noted == 1 && room[0] == TUBE_TOLD_CHARACTER
-                                          && room[1] == 'Z');
-    TubeRan empty = tube_run(waits.link, mixed, 0, reply, own, room, 0);
-    TubeRan short_of = tube_run(waits.link, mixed, 2, reply, own, room, 2 * TUBE_NOTE - 1);
-    expect("no bytes, and no room", told(empty.told, TUBE_TOLD_MORE, 0, 0, 0, 0, 0) && empty.used == 0 && empty.noted == 0 && same_link(empty.told.link, waits.link)
-                                        && told(short_of.told, TUBE_TOLD_REFUSED, 0, TUBE_BUFFER_SHORT, 0, 0, 0) && short_of.used == 0 && short_of.noted == 0
-                                        && same_link(short_of.told.link, waits.link));
-    int all = 1;
-    for (int i = 0; i < 3; i++) {
-        TubeRan one = tube_run(odd[i], mixed, 2, reply, own, room, sizeof room);
-        TubeRan quiet = tube_run(odd[i], mixed, 0, reply, own, room, 0);
-        TubeRan tight = tube_run(odd[i], mixed, 1, reply, own, room, TUBE_NOTE - 1);
-        all = all && told(one.told, TUBE_TOLD_REFUSED, 0, TUBE_STOPPED, 0, 0, 0) && one.used == 1 && one.noted == 0 && same_link(one.told.link, odd[i])
-              && told(quiet.told, TUBE_TOLD_MORE, 0, 0, 0, 0, 0) && quiet.used == 0 && same_link(quiet.told.link, odd[i])
-              && told(tight.told, TUBE_TOLD_REFUSED, 0, TUBE_BUFFER_SHORT, 0, 0, 0) && tight.used == 0 && same_link(tight.told.link, odd[i]);
-    }
-    expect("a slice to a stopped link", all);
-
-    /* Each reply written, with carry 2, X &33, Y &22, A &41 and an out length of 3. */
-    const uint8_t block[16] = {1, 2, 3, 0x9B, 5, 6, 7, 8, 9, 10, 11, 12, 13, 14, 15, 16}, line[2] = {'H', 'i'};
-    int written = writes(reply_to(TUBE_OSRDCH, TUBE_REPLY_CARRY_A, block, 0, line, 0, out, 2), out, "\x80\x41", 2)
-                  && writes(reply_to(TUBE_OSCLI, TUBE_REPLY_ACK, block, 0, line, 0, out, 1), out, "\x80", 1)
-                  && writes(reply_to(TUBE_OSFIND_OPEN, TUBE_REPLY_BYTE, block, 0, line, 0, out, 1), out, "\x41", 1)
-                  && writes(reply_to(TUBE_OSBYTE_HIGH, TUBE_REPLY_CARRY_YX, block, 0, line, 0, out, 3), out, "\x80\x22\x33", 3)
-                  && writes(reply_to(TUBE_OSWORD, TUBE_REPLY_BLOCK, block, 3, line, 0, out, 3), out, "\x01\x02\x03", 3)
-                  && writes(reply_to(TUBE_OSWORD0, TUBE_REPLY_ESCAPED_LINE, block, 0, line, 0, out, 1), out, "\xFF", 1)
-                  && writes(reply_to(TUBE_OSWORD0, TUBE_REPLY_READ_LINE, block, 0, line, 2, out, 4), out, "\x7FHi\x0D", 4)
-                  && writes(reply_to(TUBE_OSARGS, TUBE_REPLY_A_BLOCK, block, 4, line, 0, out, 6), out, "\x41\x01\x02\x03\x9B\x9B", 6)
-                  && writes(reply_to(TUBE_OSFIND_CLOSE, TUBE_REPLY_PLAIN, block, 0, line, 0, out, 1), out, "\x7F", 1)
-                  && writes(reply_to(TUBE_OSGBPB, TUBE_REPLY_BLOCK_CARRY_A, block, 13, line, 0, out, 16), out,
-                            "\x01\x02\x03\x9B\x9B\x05\x06\x07\x08\x09\x0A\x0B\x0C\x0D\x80\x41", 16);
-    expect("replies written", written);
-    uint8_t long_line[256];
-    memset(long_line, 'x', sizeof long_line);
-    memset(out, 0, sizeof out);
-    expect("replies refused", reply_to(TUBE_OSARGS, TUBE_REPLY_A_BLOCK, block, 4, line, 0, out, 5).answer == TUBE_BUFFER_SHORT
-                                  && reply_to(TUBE_OSARGS, TUBE_REPLY_ACK, block, 0, line, 0, out, 16).answer == TUBE_BAD_FIELD
-                                  && tube_write_reply(13, 0, TUBE_REPLY_PLAIN, 0, 0, 0, 0, block, 0, line, 0, out, 16).answer == TUBE_BAD_FIELD
-                                  && tube_write_reply(TUBE_OSGBPB, 0, TUBE_REPLY_NONE, 0, 0, 0, 0, block, 13, line, 0, out, 16).answer == TUBE_BAD_FIELD
-                                  && tube_write_reply(13, 0, TUBE_REPLY_PLAIN, 0, 0, 0, 0, block, 0, long_line, 256, out, 16).answer == TUBE_STRING_LONG
-                                  && out[0] == 0);
-
-    const uint8_t flags[16] = {0xC1, 0x22, 0x33, 4, 5, 6, 7, 8, 9, 10, 11, 12, 13, 0xFF, 0x41, 0}, got[4] = {0x00, 'H', 'i', 0x0D};
-    TubeGiven word_read = tube_read_reply(TUBE_OSWORD, 3, flags, 3), line_read = tube_read_reply(TUBE_OSWORD0, 0, got, 4);
-    TubeGiven args_read = tube_read_reply(TUBE_OSARGS, 0, flags, 5), gbpb_read = tube_read_reply(TUBE_OSGBPB, 0, flags, 15);
-    expect("replies read", reads(tube_read_reply(TUBE_OSRDCH, 0, flags, 2), TUBE_REPLY_CARRY_A, 1, 0, 0, 0x22)
-                               && reads(tube_read_reply(TUBE_OSCLI, 0, flags, 1), TUBE_REPLY_ACK, 1, 0, 0, 0)
-                               && reads(tube_read_reply(TUBE_OSBYTE_LOW, 0, flags, 1), TUBE_REPLY_BYTE, 0, 0, 0, 0xC1)
-                               && reads(tube_read_reply(TUBE_OSBYTE_HIGH, 0, flags, 3), TUBE_REPLY_CARRY_YX, 1, 0x33, 0x22, 0)
-                               && reads(word_read, TUBE_REPLY_BLOCK, 0, 0, 0, 0) && lies(word_read, 0, 3, 0, 0)
-                               && reads(tube_read_reply(TUBE_OSWORD0, 0, flags, 1), TUBE_REPLY_ESCAPED_LINE, 0, 0, 0, 0)
-                               && reads(line_read, TUBE_REPLY_READ_LINE, 0, 0, 0, 0) && lies(line_read, 0, 0, 1, 2)
-                               && reads(args_read, TUBE_REPLY_A_BLOCK, 0, 0, 0, 0xC1) && lies(args_read, 1, 4, 0, 0)
-                               && reads(tube_read_reply(TUBE_OSBPUT, 0, flags, 1), TUBE_REPLY_PLAIN, 0, 0, 0, 0)
-                               && reads(gbpb_read, TUBE_REPLY_BLOCK_CARRY_A, 1, 0, 0, 0x41) && lies(gbpb_read, 0, 13, 0, 0));
-    TubeGiven missing = tube_read_reply(TUBE_OSBYTE_HIGH, 0, flags, 0), no_call = tube_read_reply(13, 0, flags, 15);
-    expect("replies without their bytes or their call", reads(missing, TUBE_REPLY_CARRY_YX, 0, 0, 0, 0) && lies(missing, 0, 0, 0, 0)
-                                                            && reads(no_call, TUBE_REPLY_NONE, 0, 0, 0, 0) && lies(no_call, 0, 0, 0, 0));
-
-    const uint8_t word_body[3] = {1, 0, 9}, close_body[2] = {0, 5}, open_body[2] = {0x40, 0x0D};
-    TubeKind word_kind = tube_kind_of(0x08, word_body, 3), close_kind = tube_kind_of(0x12, close_body, 2), open_kind = tube_kind_of(0x12, open_body, 2);
-    TubeKind other = tube_kind_of(0xFF, word_body, 3), gbpb = tube_kind_of(0x16, word_body, 0);
-    expect("the kind of a request", word_kind.call == TUBE_OSWORD && word_kind.out_length == 9 && close_kind.call == TUBE_OSFIND_CLOSE && close_kind.out_length == 0
-                                        && open_kind.call == TUBE_OSFIND_OPEN && other.call == TUBE_OSRDCH && other.out_length == 0
-                                        && gbpb.call == TUBE_OSGBPB && gbpb.out_length == 0);
+    TubeGiven no_call = tube_read_reply(TUBE_CALLS, 0, flags, 17);
+    expect("tube_read_reply: no byte, no such call", missing && gives(no_call, TUBE_REPLY_NONE, 0, 0, 0, 0) && lies(no_call, 0, 0, 0, 0));
 }
 
 int main(void) {
-    TubeChip chip = tube_new();
-    const uint8_t script[9] = {0x01, 0x00, 0x81, 0x03, 0x07, 0x2A, 0x00, 0x07, 0x00};
-    const char *text = "0 0 0\n0 0 1\n0 42 0\nend 3 0\n";
-    uint8_t results[9], out[64];
-    expect("layout", sizeof(TubeChip) == 33 && offsetof(TubeChip, held) == 24 && offsetof(TubeChip, flags) == 32 && sizeof(TubeReader) == 16
-                         && offsetof(TubeReader, carrier) == 8 && sizeof(TubeRead) == 32 && offsetof(TubeRead, length) == 16
-                         && offsetof(TubeRead, kind) == 24 && sizeof(TubeFed) == 40 && offsetof(TubeFed, used) == 32);
-
-    TubeReply taken = tube_access(&chip, TUBE_HOST, 1, TUBE_WRITE, 0x2A);
-    TubeReply full = tube_access(&chip, TUBE_HOST, 1, TUBE_WRITE, 0x2B);
-    int stored = chip.held[0] == 1 && chip.bytes[tube_start[0]] == 0x2A;
-    TubeReply read = tube_access(&chip, TUBE_PARASITE, 1, TUBE_READ, 0);
-    TubeReply empty = tube_access(&chip, TUBE_PARASITE, 1, TUBE_READ, 0);
-    TubeReply missing = tube_access(&chip, TUBE_PARASITE, 8, TUBE_READ, 0);
-    expect("accesses", taken.answer == TUBE_DONE && full.answer == TUBE_NO_ROOM && stored && read.answer == TUBE_DONE && read.byte == 0x2A
-                           && empty.answer == TUBE_EMPTY && missing.answer == TUBE_MISSING);
-
-    chip.held[1] = tube_capacity[1] + 1;
-    int refused = tube_access(&chip, TUBE_HOST, 0, TUBE_READ, 0).answer == TUBE_MISSING && tube_lines(chip) == 0;
-    chip = tube_reset(chip);
-    expect("a record over its capacity is refused until its reset", refused && tube_access(&chip, TUBE_HOST, 0, TUBE_READ, 0).byte == 0x40);
-
-    TubePlayed end = tube_play(chip, script, sizeof script, 4096, results, sizeof results);
-    size_t length = tube_text(results, sizeof results, end.played, end.answer, out, sizeof out);
-    expect("the example script", end.played == 3 && end.answer == 0 && length == strlen(text) && memcmp(out, text, length) == 0
-                                     && tube_lines(end.chip) == 0);
-
-    const uint8_t name[3] = {'D', 0x9B, 'R'}, wire[7] = {0x9B, 0x62, 'D', 0x9B, 0x9B, 'R', 0x0D};
-    uint8_t line[8] = {0}, body[TUBE_BODY] = {0};
-    TubeWritten short_of = tube_write_request(TUBE_SERIAL, 3, TUBE_OSCLI, 0, 0, 0, 0, name, 0, name, 3, line, 6);
-    int untouched = line[0] == 0;
-    TubeWritten written = tube_write_request(TUBE_SERIAL, 3, TUBE_OSCLI, 0, 0, 0, 0, name, 0, name, 3, line, sizeof line);
-    TubeWritten unknown = tube_write_request(TUBE_SERIAL, 3, 13, 0, 0, 0, 0, name, 0, name, 3, line, sizeof line);
-    expect("a request written", short_of.answer == TUBE_BUFFER_SHORT && untouched && written.answer == TUBE_DONE && written.length == 7
-                                    && memcmp(line, wire, 7) == 0 && line[7] == 0 && unknown.answer == TUBE_BAD_FIELD);
-
-    TubeRead got = {.reader = tube_reader(TUBE_SERIAL)};
-    int waited = 1;
-    for (size_t i = 0; i < 7; i++) {
-        waited = waited && got.kind == TUBE_NEED_MORE;
-        got = tube_read(got.reader, wire[i], body);
-    }
-    expect("the same request read", waited && got.kind == TUBE_REQUEST && got.style == 3 && got.code == 2 && got.length == 4
-                                        && memcmp(body, name, 3) == 0 && body[3] == 0x0D);
-    got.reader.phase = 3;
-    got = tube_read(got.reader, 'A', body);
-    expect("a reader out of range is stopped", got.kind == TUBE_REFUSED && got.value == TUBE_STOPPED && got.reader.phase == 3);
-
-    /* The request in two slices, cut inside an escape pair; behind it a character that stays for the next call. */
-    const uint8_t mixed[13] = {0x9B, 0x62, 'D', 0x9B, 0x9B, 'R', 0x0D, 'A', 0x9B, 0x0A, 0x9B, 0x00, 'B'};
-    memset(body, 0, sizeof body);
-    TubeReader fresh = tube_reader(TUBE_SERIAL);
-    TubeFed none = tube_feed(fresh, mixed, 0, body);
-    expect("an empty slice needs more", none.read.kind == TUBE_NEED_MORE && none.used == 0 && same(none.read.reader, fresh));
-    TubeFed first = tube_feed(fresh, mixed, 4, body);
-    TubeFed second = tube_feed(first.read.reader, mixed + 4, 9, body);
-    expect("a request over two slices", first.read.kind == TUBE_NEED_MORE && first.used == 4 && first.read.reader.count == 1 && first.read.reader.escape == 1
-                                            && second.read.kind == TUBE_REQUEST && second.used == 3 && second.read.style == 3 && second.read.code == 2
-                                            && second.read.length == 4 && memcmp(body, name, 3) == 0 && body[3] == 0x0D);
-    TubeFed character = tube_feed(second.read.reader, mixed + 7, 6, body);
-    expect("a character before the end of a slice", character.read.kind == TUBE_CHARACTER && character.read.value == 'A' && character.used == 1);
-    TubeFed inside = tube_feed(character.read.reader, mixed + 8, 5, body);
-    expect("a refusal in the middle of a slice", inside.read.kind == TUBE_REFUSED && inside.read.value == TUBE_MARK_INSIDE && inside.used == 4
-                                                     && inside.read.reader.phase == TUBE_STOPPED_PHASE && inside.read.reader.code == 0x0A);
-    TubeFed stopped = tube_feed(inside.read.reader, mixed, 7, body);
-    TubeFed quiet = tube_feed(inside.read.reader, mixed, 0, body);
-    expect("a stopped reader is given back", stopped.read.kind == TUBE_REFUSED && stopped.read.value == TUBE_STOPPED && stopped.used == 1
-                                                 && same(stopped.read.reader, inside.read.reader) && quiet.read.kind == TUBE_NEED_MORE
-                                                 && quiet.used == 0 && same(quiet.read.reader, inside.read.reader));
-    TubeReader odd[2] = {fresh, fresh};
-    odd[0].phase = 3;
-    odd[1].carrier = 2;
-    int given = 1;
-    for (int i = 0; i < 2; i++) {
-        stopped = tube_feed(odd[i], mixed, 7, body);
-        quiet = tube_feed(odd[i], mixed, 0, body);
-        given = given && stopped.read.kind == TUBE_REFUSED && stopped.read.value == TUBE_STOPPED && stopped.used == 1 && same(stopped.read.reader, odd[i])
-                && quiet.read.kind == TUBE_NEED_MORE && quiet.used == 0 && same(quiet.read.reader, odd[i]);
-    }
-    expect("a slice to a reader out of range", given && memcmp(body, name, 3) == 0 && body[3] == 0x0D);
-
-    link_and_replies();
-
+    for (size_t i = 0; i < sizeof letters; i++)
+        letters[i] = (uint8_t)('A' + i % 26);
+    memset(escapes, TUBE_ESCAPE_BYTE, sizeof escapes);
+    layout();
+    chip_made();
+    accesses();
+    scripts();
+    requests_written();
+    requests_read();
+    calls_begun();
+    steps();
+    runs();
+    replies_written();
+    replies_read();
     printf("%d passed, %d failed\n", run - failed, failed);
     return failed != 0;
 }

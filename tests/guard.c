@@ -1,0 +1,626 @@
+/* Every export with buffers that end at a page that cannot be touched, or start behind one, hostile records (numbers out of range, counts far
+ * above their limits) and random streams: no byte outside what is lent is touched, and lent bytes that may not change stay.
+ *     guard SEED ROUNDS          buffers at guard pages
+ *     guard SEED ROUNDS heap     buffers of their exact length on the heap, for valgrind
+ * The last line is 'N passed, M failed', properties and not calls counted. */
+#define _DEFAULT_SOURCE
+#include "../include/tube.h"
+#include <setjmp.h>
+#include <signal.h>
+#include <stdio.h>
+#include <stdlib.h>
+#include <string.h>
+#include <sys/mman.h>
+#include <unistd.h>
+
+/* ---- Random numbers ---- */
+
+static uint64_t state;
+
+static uint64_t next(void) {
+    state ^= state >> 12;
+    state ^= state << 25;
+    state ^= state >> 27;
+    return state * 0x2545F4914F6CDD1Du;
+}
+
+static size_t below(size_t limit) {
+    return (size_t)(next() >> 32) % limit;
+}
+
+static uint8_t byte(void) {
+    return (uint8_t)(next() >> 56);
+}
+
+/* A byte at which rules change, or any. */
+static uint8_t edge(void) {
+    static const uint8_t edges[16] = {0x9B, 0x9B, 0x9B, 0x9B, 0x00, 0x00, 0x0D, 0x0D, 0x7F, 0x80, 0xFF, 0x02, 0x08, 0x14, 0x90, 0xC0};
+    return below(2) ? edges[below(16)] : byte();
+}
+
+/* A number below `limit` in most cases, else around it or any. */
+static uint8_t tag(uint8_t limit) {
+    switch (below(12)) {
+    case 0: return byte();
+    case 1: return limit;
+    case 2: return 0xFF;
+    default: return (uint8_t)below(limit);
+    }
+}
+
+static size_t count(size_t limit) {
+    switch (below(12)) {
+    case 0: return limit;
+    case 1: return limit + 1 + below(300);
+    case 2: return SIZE_MAX - below(300);
+    case 3: return (size_t)next();
+    case 4: return limit - 1;
+    case 5: return below(3);
+    default: return below(limit);
+    }
+}
+
+/* The length of a buffer. */
+static size_t length_of(void) {
+    switch (below(6)) {
+    case 0: return 0;
+    case 1: return 1 + below(3);
+    case 2: return 250 + below(12);
+    case 3: return below(400);
+    default: return below(24);
+    }
+}
+
+/* ---- Properties ---- */
+
+enum {
+    ACCESS, NEW, RESET, LINES, PLAY, TEXT, READER, READ, FEED, WRITE_REQUEST, KIND_OF, LINK, BEGIN, LINK_STEP, RUN, WRITE_REPLY, READ_REPLY, EXPORTS
+};
+
+static const char *const exports[EXPORTS] = {
+    "tube_access", "tube_new", "tube_reset", "tube_lines", "tube_play", "tube_text", "tube_reader", "tube_read", "tube_feed", "tube_write_request",
+    "tube_kind_of", "tube_link", "tube_begin", "tube_link_step", "tube_run", "tube_write_reply", "tube_read_reply"};
+
+enum { INSIDE, STAYS, SOUND, KINDS };
+
+static const char *const kinds[KINDS] = {"nothing outside is touched", "lent bytes that may not change stay", "its answer is a sound one"};
+
+static struct {
+    unsigned long checked;
+    char first[120]; /* where it first failed */
+} found[EXPORTS][KINDS];
+
+/* The answers that each export has, and those that came up. Of a reader and a link they are the refusals' numbers, and 16 and more by kind. */
+#define BIT(n) (1ul << (n))
+#define WRITER (BIT(TUBE_DONE) | BIT(TUBE_STRING_LONG) | BIT(TUBE_BUFFER_SHORT) | BIT(TUBE_BAD_FIELD))
+#define READER_KINDS (BIT(16 + TUBE_NEED_MORE) | BIT(16 + TUBE_CHARACTER) | BIT(16 + TUBE_REQUEST) | BIT(16 + TUBE_REFUSED))
+#define READER_REFUSALS (BIT(TUBE_UNKNOWN_CODE) | BIT(TUBE_MARK_INSIDE) | BIT(TUBE_STRING_LONG) | BIT(TUBE_STOPPED) | BIT(TUBE_BAD_FIELD))
+#define LINK_REFUSALS (BIT(TUBE_UNKNOWN_CODE) | BIT(TUBE_MARK_INSIDE) | BIT(TUBE_STRING_LONG) | BIT(TUBE_STOPPED))
+
+static const unsigned long has[EXPORTS] = {
+    [ACCESS] = BIT(TUBE_DONE) | BIT(TUBE_MISSING) | BIT(TUBE_NO_ROOM) | BIT(TUBE_EMPTY),
+    [PLAY] = BIT(TUBE_DONE) | BIT(TUBE_BUFFER_SHORT) | BIT(TUBE_LIMIT_REACHED) | BIT(TUBE_CUT_SHORT),
+    [READ] = READER_KINDS | READER_REFUSALS,
+    [FEED] = READER_KINDS | READER_REFUSALS,
+    [WRITE_REQUEST] = WRITER,
+    [BEGIN] = BIT(TUBE_DONE) | BIT(TUBE_STOPPED) | BIT(TUBE_CALL_WAITS) | BIT(16 + TUBE_BEGUN) | BIT(16 + TUBE_COMPLETE) | BIT(16 + TUBE_DENIED),
+    [LINK_STEP] = LINK_REFUSALS | 0x1FFul << 16,
+    [RUN] = LINK_REFUSALS | BIT(TUBE_BUFFER_SHORT) | BIT(16 + TUBE_TOLD_MORE) | 0xFul << (16 + TUBE_TOLD_REPLY),
+    [WRITE_REPLY] = WRITER,
+};
+
+static unsigned long seen[EXPORTS];
+
+static int current; /* the export that is called */
+static unsigned long current_round;
+
+static void check(int kind, int good) {
+    found[current][kind].checked++;
+    if (!good && found[current][kind].first[0] == 0)
+        snprintf(found[current][kind].first, sizeof found[current][kind].first, "first in round %lu", current_round);
+}
+
+static void came(unsigned answer) {
+    seen[current] |= BIT(answer);
+}
+
+/* A kind, and the number of a refusal. */
+static void came_kind(unsigned kind, unsigned refused, unsigned number) {
+    came(16 + kind);
+    if (kind == refused)
+        came(number);
+}
+
+/* ---- Lent buffers ---- */
+
+enum { SLOTS = 4 };
+
+static int heap;
+static size_t page;
+
+/* A buffer as it is lent: the memory around it that can be touched is filled and compared too. */
+static struct {
+    uint8_t *map;    /* a guard page, a page, a guard page */
+    uint8_t *area;   /* what can be touched */
+    uint8_t *before; /* its bytes as they were lent */
+    size_t size, start, length;
+} slots[SLOTS];
+
+static void map_slots(void) {
+    page = (size_t)sysconf(_SC_PAGESIZE);
+    for (int i = 0; i < SLOTS; i++) {
+        slots[i].before = malloc(page);
+        slots[i].map = mmap(NULL, 3 * page, PROT_NONE, MAP_PRIVATE | MAP_ANONYMOUS, -1, 0);
+        if (slots[i].before == NULL || slots[i].map == MAP_FAILED || mprotect(slots[i].map + page, page, PROT_READ | PROT_WRITE) != 0) {
+            perror("guard pages");
+            exit(2);
+        }
+    }
+}
+
+/* Lends `length` bytes, all random or all edges. */
+static uint8_t *lend(int slot, size_t length) {
+    if (heap) {
+        free(slots[slot].area);
+        slots[slot].size = length;
+        slots[slot].area = malloc(length);
+        slots[slot].start = 0;
+    } else {
+        slots[slot].size = page;
+        slots[slot].area = slots[slot].map + page;
+        slots[slot].start = below(2) ? page - length : 0;
+    }
+    slots[slot].length = length;
+    for (size_t i = 0; i < slots[slot].size; i += 8) {
+        uint64_t bytes = next();
+        memcpy(slots[slot].area + i, &bytes, slots[slot].size - i < 8 ? slots[slot].size - i : 8);
+    }
+    uint8_t *at = slots[slot].area + slots[slot].start;
+    if (below(3) > 0)
+        for (size_t i = 0; i < length; i++)
+            at[i] = edge();
+    return at;
+}
+
+/* What stands in a buffer now is what is compared with. */
+static const uint8_t *filled(int slot) {
+    memcpy(slots[slot].before, slots[slot].area, slots[slot].size);
+    return slots[slot].area + slots[slot].start;
+}
+
+/* Whether all but the lent bytes `from` to below `to` are as they were. */
+static int stays(int slot, size_t from, size_t to) {
+    const uint8_t *area = slots[slot].area, *before = slots[slot].before;
+    size_t start = slots[slot].start + from, end = slots[slot].start + to;
+    return memcmp(area, before, start) == 0 && memcmp(area + end, before + end, slots[slot].size - end) == 0;
+}
+
+static int all_stay(int slot) {
+    return stays(slot, 0, 0);
+}
+
+static size_t at_most(size_t a, size_t b) {
+    return a < b ? a : b;
+}
+
+/* ---- The chip and scripts ---- */
+
+static TubeChip any_chip(void) {
+    TubeChip chip;
+    uint8_t *bytes = (uint8_t *)&chip;
+    for (size_t i = 0; i < sizeof chip; i++)
+        bytes[i] = byte();
+    if (below(4) > 0)
+        for (int c = 0; c < 8; c++)
+            chip.held[c] = (uint8_t)below(tube_capacity[c] + 1u);
+    if (below(8) == 0)
+        chip.held[below(8)] = below(2) ? 11 : 255;
+    return chip;
+}
+
+static int over_full(const TubeChip *chip) {
+    for (int c = 0; c < 8; c++)
+        if (chip->held[c] > tube_capacity[c])
+            return 1;
+    return 0;
+}
+
+static int same_chip(TubeChip a, TubeChip b) {
+    return memcmp(&a, &b, sizeof a) == 0;
+}
+
+static void try_access(void) {
+    TubeChip given = any_chip();
+    TubeChip *chip = (TubeChip *)lend(0, sizeof given);
+    memcpy(chip, &given, sizeof given);
+    filled(0);
+    TubeReply r = tube_access(chip, tag(2), tag(8), tag(2), byte());
+    came(r.answer);
+    check(INSIDE, stays(0, 0, sizeof given));
+    check(STAYS, r.answer == TUBE_DONE || all_stay(0));
+    check(SOUND, r.answer <= TUBE_EMPTY && (r.answer == TUBE_DONE || r.byte == 0) && over_full(chip) == over_full(&given)
+                     && (!over_full(&given) || r.answer == TUBE_MISSING));
+}
+
+static void try_new(void) {
+    TubeChip chip = tube_new();
+    check(SOUND, !over_full(&chip) && chip.flags == 0);
+}
+
+static void try_reset(void) {
+    check(SOUND, same_chip(tube_reset(any_chip()), tube_new()));
+}
+
+static void try_lines(void) {
+    TubeChip chip = any_chip();
+    uint8_t lines = tube_lines(chip);
+    check(SOUND, lines < 16 && (lines == 0 || !over_full(&chip)));
+}
+
+static void try_play(void) {
+    TubeChip chip = any_chip();
+    size_t length = length_of(), records = length / TUBE_RECORD, limit = below(2) ? count(records + 1) : records;
+    size_t played = at_most(limit, records), need = played * TUBE_RESULT, room = need + below(3) - 1;
+    if (need == 0 || below(4) == 0)
+        room = length_of();
+    uint8_t *script = lend(0, length);
+    for (size_t i = 0; i < length; i += TUBE_RECORD)
+        script[i] = tag(5);
+    filled(0);
+    uint8_t *results = lend(1, room);
+    filled(1);
+    TubePlayed p = tube_play(chip, script, length, limit, results, room);
+    came(p.answer);
+    check(INSIDE, stays(1, 0, room));
+    check(STAYS, all_stay(0) && stays(1, 0, p.answer == TUBE_BUFFER_SHORT ? 0 : need));
+    check(SOUND, room < need ? p.answer == TUBE_BUFFER_SHORT && p.played == 0 && same_chip(p.chip, chip)
+                             : p.played == played && (p.answer == TUBE_DONE || p.answer == TUBE_LIMIT_REACHED || p.answer == TUBE_CUT_SHORT));
+}
+
+static void try_text(void) {
+    static uint8_t large[8192];
+    size_t length = length_of(), played = below(2) ? count(length / TUBE_RESULT + 1) : length / TUBE_RESULT;
+    uint8_t answer = byte(), *results = lend(0, length);
+    filled(0);
+    size_t need = tube_text(results, length, played, answer, large, sizeof large), room = need == 0 || below(3) == 0 ? length_of() : need + below(3) - 1;
+    uint8_t *out = lend(1, room);
+    filled(1);
+    size_t written = tube_text(results, length, played, answer, out, room);
+    check(INSIDE, stays(1, 0, room));
+    check(STAYS, all_stay(0) && stays(1, 0, at_most(written, room)));
+    check(SOUND, (played > length / TUBE_RESULT ? need == 0 : need > 0) && written == (need <= room ? need : 0) && memcmp(out, large, at_most(written, room)) == 0);
+}
+
+/* ---- Requests ---- */
+
+static TubeReader any_reader(void) {
+    TubeReader r;
+    r.carrier = tag(2);
+    r.phase = below(3) ? TUBE_INSIDE : tag(3);
+    r.escape = below(2) ? 0 : byte();
+    r.style = tag(r.carrier == TUBE_SERIAL ? 4 : 1);
+    r.code = below(12) == 0 ? byte() : (uint8_t)(2 + 2 * below(11));
+    static const size_t longest[12] = {1, 256, 2, 3, 258, 5, 6, 1, 2, 257, 273, 14};
+    r.count = count(r.code <= TUBE_CODE_OSGBPB ? longest[r.code / 2] : 273);
+    return r;
+}
+
+static int same_reader(TubeReader a, TubeReader b) {
+    return a.count == b.count && a.carrier == b.carrier && a.phase == b.phase && a.escape == b.escape && a.style == b.style && a.code == b.code;
+}
+
+/* Where a byte taken from this record on is put. */
+static size_t body_place(TubeReader r) {
+    return r.phase == TUBE_INSIDE ? at_most(r.count, TUBE_BODY) : 0;
+}
+
+static int sound_read(TubeRead r, TubeReader given) {
+    switch (r.kind) {
+    case TUBE_NEED_MORE: return r.length == 0 && r.value == 0 && r.style == 0 && r.code == 0;
+    case TUBE_CHARACTER: return r.length == 0 && r.style == 0 && r.code == 0;
+    case TUBE_REQUEST: return r.length <= TUBE_BODY && r.value == 0 && r.style <= 3 && r.code <= TUBE_CODE_OSGBPB;
+    case TUBE_REFUSED: return r.length == 0 && r.value >= TUBE_UNKNOWN_CODE && r.value <= TUBE_BAD_FIELD && r.value != TUBE_BUFFER_SHORT
+                              && (r.value != TUBE_STOPPED || same_reader(r.reader, given));
+    default: return 0;
+    }
+}
+
+static void try_reader(void) {
+    uint8_t carrier = byte();
+    TubeReader r = tube_reader(carrier);
+    check(SOUND, r.count == 0 && r.carrier == carrier && r.phase == TUBE_OUTSIDE && r.escape == 0 && r.style == 0 && r.code == 0);
+}
+
+static void try_read(void) {
+    TubeReader given = any_reader();
+    uint8_t *body = lend(0, TUBE_BODY);
+    if (below(2) && given.count > 0 && given.count <= TUBE_BODY)
+        body[given.count - 1] = 0x0D;
+    filled(0);
+    TubeRead r = tube_read(given, edge(), body);
+    came_kind(r.kind, TUBE_REFUSED, r.value);
+    size_t place = body_place(given);
+    check(INSIDE, stays(0, 0, TUBE_BODY));
+    check(STAYS, r.kind == TUBE_REFUSED || r.kind == TUBE_CHARACTER ? all_stay(0) : stays(0, place, at_most(place + 1, TUBE_BODY)));
+    check(SOUND, sound_read(r, given));
+}
+
+static void try_feed(void) {
+    static TubeReader kept;
+    TubeReader given = below(2) ? any_reader() : kept;
+    size_t length = length_of();
+    const uint8_t *raw = lend(0, length);
+    filled(0);
+    uint8_t *body = lend(1, TUBE_BODY);
+    filled(1);
+    TubeFed f = tube_feed(given, raw, length, body);
+    came_kind(f.read.kind, TUBE_REFUSED, f.read.value);
+    size_t place = body_place(given);
+    check(INSIDE, stays(1, 0, TUBE_BODY));
+    check(STAYS, all_stay(0) && stays(1, place, at_most(place + f.used, TUBE_BODY)));
+    check(SOUND, sound_read(f.read, given) && f.used <= length && (f.read.kind == TUBE_NEED_MORE ? f.used == length : f.used > 0)
+                     && (length > 0 || same_reader(f.read.reader, given)));
+    kept = f.read.kind == TUBE_REFUSED ? tube_reader(tag(2)) : f.read.reader;
+}
+
+/* The buffer for an encoding of this length: just long enough, around it, or any. */
+static size_t room_for(size_t need) {
+    return below(4) == 0 || need == 0 ? length_of() : need + below(3) - 1;
+}
+
+static int sound_written(TubeWritten w, TubeWritten whole, size_t room) {
+    if (whole.answer != TUBE_DONE)
+        return w.answer == whole.answer && w.length == 0 && (w.answer == TUBE_STRING_LONG || w.answer == TUBE_BAD_FIELD);
+    return room < whole.length ? w.answer == TUBE_BUFFER_SHORT && w.length == 0 : w.answer == TUBE_DONE && w.length == whole.length;
+}
+
+static void try_write_request(void) {
+    static uint8_t large[2 + 2 * TUBE_BODY];
+    static const size_t blocks[TUBE_CALLS] = {0, 0, 0, 0, 7, 5, 4, 0, 0, 0, 0, 16, 13};
+    uint8_t carrier = tag(2), style = carrier == TUBE_SERIAL ? tag(4) : tag(1), call = tag(TUBE_CALLS), x = edge(), y = edge(), a = edge(), out_length = byte();
+    int has_text = call == TUBE_OSCLI || call == TUBE_OSFIND_OPEN || call == TUBE_OSFILE;
+    size_t block_length = below(6) == 0 || call >= TUBE_CALLS ? length_of() : call == TUBE_OSWORD ? length_of() : blocks[call];
+    size_t text_length = has_text || below(6) == 0 ? length_of() : 0;
+    const uint8_t *block = lend(0, block_length);
+    filled(0);
+    uint8_t *text = lend(1, text_length);
+    if (below(4) > 0)
+        for (size_t i = 0; i < text_length; i++)
+            text[i] = text[i] == 0x0D ? 0x9B : text[i];
+    filled(1);
+    TubeWritten whole = tube_write_request(carrier, style, call, x, y, a, out_length, block, block_length, text, text_length, large, sizeof large);
+    size_t room = room_for(whole.length);
+    uint8_t *out = lend(2, room);
+    filled(2);
+    TubeWritten w = tube_write_request(carrier, style, call, x, y, a, out_length, block, block_length, text, text_length, out, room);
+    came(w.answer);
+    check(INSIDE, stays(2, 0, room));
+    check(STAYS, all_stay(0) && all_stay(1) && stays(2, 0, at_most(w.length, room)));
+    check(SOUND, sound_written(w, whole, room) && memcmp(out, large, at_most(w.length, room)) == 0);
+}
+
+static void try_kind_of(void) {
+    size_t length = length_of();
+    const uint8_t *body = lend(0, length);
+    filled(0);
+    TubeKind k = tube_kind_of(below(2) ? (uint8_t)(2 * below(12)) : byte(), body, length);
+    check(INSIDE, all_stay(0));
+    check(SOUND, k.call < TUBE_CALLS && (k.out_length == 0 || k.call == TUBE_OSWORD));
+}
+
+/* ---- The link ---- */
+
+static TubeLink any_link(void) {
+    static const size_t most[TUBE_CALLS + 1] = {1, 2, 1, 1, 3, 255, 257, 5, 2, 1, 1, 1, 17, 15}, most_own[4] = {1, 257, 3, 4};
+    TubeLink l;
+    l.wait = below(4) ? tag(TUBE_CALLS + 1) : 1 + TUBE_OSWORD + (uint8_t)below(2);
+    l.out_length = below(3) ? 255 : byte();
+    l.action = tag(4);
+    l.got = l.wait > 0 ? count(l.wait <= TUBE_CALLS ? most[l.wait] : 257) : below(8) == 0 ? count(2) : 0;
+    l.held = l.action > 0 ? count(l.action < 4 ? most_own[l.action] : 257) : below(8) == 0 ? count(2) : 0;
+    if (l.action == TUBE_IN_ERROR && below(3) == 0)
+        l.held = 1; /* its number alone */
+    l.escape = below(2) ? 0 : byte();
+    l.stopped = below(12) ? 0 : byte();
+    return l;
+}
+
+static int same_link(TubeLink a, TubeLink b) {
+    return a.got == b.got && a.held == b.held && a.wait == b.wait && a.out_length == b.out_length && a.escape == b.escape && a.action == b.action
+           && a.stopped == b.stopped;
+}
+
+static int sound_told(TubeTold t, TubeLink given) {
+    switch (t.kind) {
+    case TUBE_TOLD_REPLY: return t.length > 0 && t.length <= TUBE_REPLY_LENGTH && t.first == 0;
+    case TUBE_TOLD_ERROR: return t.length <= 255;
+    case TUBE_TOLD_REFUSED: return t.length == 0 && t.first >= TUBE_UNKNOWN_CODE && t.first <= TUBE_BUFFER_SHORT
+                                   && (t.first < TUBE_STOPPED || same_link(t.link, given) || t.link.stopped != 0);
+    default: return t.kind < TUBE_TOLD_REFUSED && t.length == 0;
+    }
+}
+
+static void try_link(void) {
+    TubeLink l = tube_link();
+    check(SOUND, l.got == 0 && l.held == 0 && l.wait == 0 && l.escape == 0 && l.action == 0 && l.stopped == 0);
+}
+
+static void try_begin(void) {
+    TubeLink given = any_link();
+    TubeBegun b = tube_begin(given, below(6) ? tag(TUBE_CALLS) : TUBE_OSWORD, below(3) ? byte() : 0);
+    came_kind(b.kind, b.kind, b.answer);
+    check(SOUND, b.kind == TUBE_BEGUN ? b.answer == 0 && b.link.wait > 0
+                 : same_link(b.link, given)
+                       && (b.kind == TUBE_COMPLETE ? b.answer == 0 : b.kind == TUBE_DENIED && (b.answer == TUBE_STOPPED || b.answer == TUBE_CALL_WAITS)));
+}
+
+static void try_link_step(void) {
+    TubeLink given = any_link();
+    uint8_t *reply = lend(0, TUBE_REPLY_LENGTH);
+    filled(0);
+    uint8_t *own = lend(1, TUBE_OWN_LENGTH);
+    own[0] = below(2) ? 0 : own[0];
+    filled(1);
+    TubeTold t = tube_link_step(given, below(4) ? edge() : 0, reply, own);
+    came_kind(t.kind, TUBE_TOLD_REFUSED, t.first);
+    size_t got = at_most(given.got, TUBE_REPLY_LENGTH), held = at_most(given.held, TUBE_OWN_LENGTH);
+    check(INSIDE, stays(0, 0, TUBE_REPLY_LENGTH) && stays(1, 0, TUBE_OWN_LENGTH));
+    check(STAYS, t.kind == TUBE_TOLD_REFUSED || t.kind == TUBE_TOLD_CHARACTER
+                     ? all_stay(0) && all_stay(1)
+                     : (all_stay(0) || all_stay(1)) && stays(0, got, at_most(got + 1, TUBE_REPLY_LENGTH)) && stays(1, held, at_most(held + 1, TUBE_OWN_LENGTH)));
+    check(SOUND, sound_told(t, given) && (t.kind != TUBE_TOLD_REFUSED || t.first != TUBE_BUFFER_SHORT));
+}
+
+static void try_run(void) {
+    static TubeLink kept;
+    TubeLink given = below(2) ? any_link() : kept;
+    size_t length = length_of(), need = TUBE_NOTE * length, room_length = need + below(4) - (need > 0 && below(4) == 0);
+    uint8_t *raw = lend(0, length);
+    if (length >= 4 && below(4) == 0)
+        memcpy(raw + below(length - 3), "\x9B\0\0\0", 4); /* a restart */
+    filled(0);
+    uint8_t *reply = lend(1, TUBE_REPLY_LENGTH);
+    filled(1);
+    uint8_t *own = lend(2, TUBE_OWN_LENGTH);
+    filled(2);
+    uint8_t *room = lend(3, room_length);
+    filled(3);
+    TubeRan r = tube_run(given, raw, length, reply, own, room, room_length);
+    came_kind(r.told.kind, TUBE_TOLD_REFUSED, r.told.first);
+    size_t got = at_most(given.got, TUBE_REPLY_LENGTH), held = at_most(given.held, TUBE_OWN_LENGTH);
+    int tight = room_length < need;
+    check(INSIDE, stays(1, 0, TUBE_REPLY_LENGTH) && stays(2, 0, TUBE_OWN_LENGTH) && stays(3, 0, room_length));
+    check(STAYS, tight ? all_stay(0) && all_stay(1) && all_stay(2) && all_stay(3)
+                       : all_stay(0) && stays(1, got, at_most(got + r.used, TUBE_REPLY_LENGTH)) && stays(2, 0, at_most(held + r.used, TUBE_OWN_LENGTH))
+                             && stays(3, 0, at_most(TUBE_NOTE * r.noted, room_length)));
+    int notes = r.noted <= r.used && r.used <= length;
+    for (size_t i = 0; notes && i < r.noted; i++)
+        notes = room[i * TUBE_NOTE] >= TUBE_TOLD_CHARACTER && room[i * TUBE_NOTE] <= TUBE_TOLD_ADDRESS;
+    check(SOUND, notes && sound_told(r.told, given)
+                     && (tight ? r.told.kind == TUBE_TOLD_REFUSED && r.told.first == TUBE_BUFFER_SHORT && r.used == 0 && r.noted == 0 && same_link(r.told.link, given)
+                               : r.told.kind == TUBE_TOLD_MORE ? r.used == length : r.used > 0 && r.told.kind >= TUBE_TOLD_REPLY));
+    kept = r.told.kind == TUBE_TOLD_REFUSED ? tube_link() : r.told.link;
+    if (below(2))
+        kept = tube_begin(kept, tag(TUBE_CALLS), byte()).link;
+}
+
+/* ---- Replies ---- */
+
+static void try_write_reply(void) {
+    static uint8_t large[2 * TUBE_REPLY_LENGTH];
+    static const uint8_t forms[TUBE_CALLS] = {0, 1, 2, 3, 4, 6, 7, 0, 8, 8, 2, 7, 9};
+    static const size_t blocks[TUBE_CALLS] = {0, 0, 0, 0, 0, 0, 4, 0, 0, 0, 0, 16, 13};
+    uint8_t call = tag(TUBE_CALLS), out_length = byte(), carry = byte(), x = edge(), y = edge(), a = edge();
+    uint8_t reply = call >= TUBE_CALLS || below(6) == 0 ? tag(11) : forms[call];
+    size_t block_length = call >= TUBE_CALLS || below(6) == 0 ? length_of() : call == TUBE_OSWORD ? out_length : blocks[call];
+    size_t text_length = reply == TUBE_REPLY_READ_LINE || below(6) == 0 ? length_of() : 0;
+    const uint8_t *block = lend(0, block_length);
+    filled(0);
+    uint8_t *text = lend(1, text_length);
+    if (below(4) > 0)
+        for (size_t i = 0; i < text_length; i++)
+            text[i] = text[i] == 0x0D ? 0x9B : text[i];
+    filled(1);
+    TubeWritten whole = tube_write_reply(call, out_length, reply, carry, x, y, a, block, block_length, text, text_length, large, sizeof large);
+    size_t room = room_for(whole.length);
+    uint8_t *out = lend(2, room);
+    filled(2);
+    TubeWritten w = tube_write_reply(call, out_length, reply, carry, x, y, a, block, block_length, text, text_length, out, room);
+    came(w.answer);
+    check(INSIDE, stays(2, 0, room));
+    check(STAYS, all_stay(0) && all_stay(1) && stays(2, 0, at_most(w.length, room)));
+    check(SOUND, sound_written(w, whole, room) && memcmp(out, large, at_most(w.length, room)) == 0);
+}
+
+static void try_read_reply(void) {
+    size_t length = length_of();
+    const uint8_t *bytes = lend(0, length);
+    filled(0);
+    TubeGiven g = tube_read_reply(tag(TUBE_CALLS), byte(), bytes, length);
+    check(INSIDE, all_stay(0));
+    check(SOUND, g.reply <= TUBE_REPLY_NONE && g.carry <= 1 && g.block_start <= length && g.block_length <= length - g.block_start
+                     && g.text_start <= length && g.text_length <= length - g.text_start);
+}
+
+/* ---- All of it ---- */
+
+static void (*const trials[EXPORTS])(void) = {
+    try_access, try_new, try_reset, try_lines, try_play, try_text, try_reader, try_read, try_feed, try_write_request,
+    try_kind_of, try_link, try_begin, try_link_step, try_run, try_write_reply, try_read_reply};
+
+static sigjmp_buf out_of_call;
+
+static void caught(int number) {
+    (void)number;
+    siglongjmp(out_of_call, 1);
+}
+
+/* Whether a byte right behind a buffer, and one right before, is caught. */
+static int pages_guard(void) {
+    static volatile uint8_t *edges[4];
+    static volatile int i, times;
+    for (int slot = 0; slot < 2; slot++) {
+        edges[2 * slot] = slots[slot].map + page - 1;
+        edges[2 * slot + 1] = slots[slot].map + 2 * page;
+    }
+    for (i = 0, times = 0; i < 4; i++)
+        if (sigsetjmp(out_of_call, 0) == 0)
+            *edges[i] = 1;
+        else
+            times++;
+    return times == 4;
+}
+
+int main(int arguments, char **values) {
+    if (arguments < 3 || arguments > 4) {
+        fprintf(stderr, "guard SEED ROUNDS [heap]\n");
+        return 2;
+    }
+    static volatile unsigned long rounds;
+    rounds = strtoul(values[2], NULL, 10);
+    state = strtoull(values[1], NULL, 10) * 2 + 1;
+    heap = arguments == 4;
+    map_slots();
+
+    struct sigaction action;
+    memset(&action, 0, sizeof action);
+    action.sa_handler = caught;
+    action.sa_flags = SA_NODEFER;
+    sigaction(SIGSEGV, &action, NULL);
+    sigaction(SIGBUS, &action, NULL);
+
+    int passed = 0, failed = 0;
+    if (!heap) {
+        int guard = pages_guard();
+        printf("%s a byte right before or behind a buffer is caught\n", guard ? "ok" : "FAILED");
+        passed += guard;
+        failed += !guard;
+    }
+    for (current_round = 0; current_round < rounds; current_round++)
+        for (current = 0; current < EXPORTS; current++)
+            if (sigsetjmp(out_of_call, 0) == 0)
+                trials[current]();
+            else
+                check(INSIDE, 0);
+
+    for (int e = 0; e < EXPORTS; e++)
+        for (int k = 0; k < KINDS; k++)
+            if (found[e][k].checked > 0) {
+                int good = found[e][k].first[0] == 0;
+                printf("%s %s: %s%s%s\n", good ? "ok" : "FAILED", exports[e], kinds[k], good ? "" : ": ", found[e][k].first);
+                passed += good;
+                failed += !good;
+            }
+    int missing = 0;
+    for (int e = 0; e < EXPORTS; e++)
+        for (int answer = 0; answer < 32; answer++)
+            if ((has[e] & ~seen[e]) >> answer & 1) {
+                printf("no %s %d of %s\n", answer < 16 ? "answer" : "kind", answer % 16, exports[e]);
+                missing = 1;
+            }
+    printf("%s every answer of every export came up\n", missing ? "FAILED" : "ok");
+    passed += !missing;
+    failed += missing;
+    printf("%d passed, %d failed\n", passed, failed);
+    return failed != 0;
+}
