@@ -15,7 +15,7 @@ use Rattle.serial_rules.specs.Body.{Turn, more, done, refused, bodyTurn}
 use Rattle.serial_rules.specs.Fields.{fieldsOf}
 use Rattle.serial_rules.specs.Reader.{Reader, stopped, outside, inside, Answer, needMore, character, request, refusal, Step, gives, pieceOutside, pieceInside, starts, begun, outsideStep, turned, insideStep, step}
 use Rattle.serial_rules.specs.Stream.{readerAfter, rawOf}
-use Rattle.serial_rules.proofs.Stream.{right-of}
+use Rattle.serial_rules.proofs.Limits.{code-most}
 use Rattle.serial_rules.proofs.Trip.{Goes, goes-append, All, all-snoc, and-both}
 use Rattle.serial_rules.proofs.Finished.{Rewritten, rewritten}
 
@@ -92,7 +92,7 @@ unfolding startsRequest
 style-in serial m h s =
     let n = eqb-false (m / 128 % 2) 1 (not-true (bit m 128) (and-both (not (bit m 128)) (isCode (codeIn m)) s .0)) in
     le-leb (m / 32) 3 (omega (arith, n))
-style-in parallel m h s = let n = leb-true m 0x16 (right-of (not (bit m 1)) (leb m 0x16) s) in eq-eqb (m / 32) 0 (omega arith)
+style-in parallel m h s = let n = code-most m s in eq-eqb (m / 32) 0 (omega arith)
 
 rdch-good : Rewritten 0 []
 unfolding fieldsOf codeOf bodyOf callOk hasReturn

@@ -14,6 +14,7 @@ use Rattle.serial_rules.specs.Body.{Turn, more, done, refused, bodyTurn}
 use Rattle.serial_rules.specs.Reader.{Reader, stopped, outside, inside, Answer, needMore, character, request, refusal, Step, gives, pieceOutside, pieceInside, starts, begun, outsideStep, turned, insideStep, step}
 use Rattle.serial_rules.specs.Stream.{readerAfter, answers, rawOf, finished, seen, opened, accepted}
 use Rattle.serial_rules.proofs.Escape.{escaped-append, escaped-one}
+use Rattle.serial_rules.proofs.Limits.{code-most}
 
 pub carried-append : (carrier : Carrier) (a b : List ℕ) → carried carrier (a ++ b) ≡ carried carrier a ++ carried carrier b
 carried-append serial a b = escaped-append a b
@@ -83,15 +84,11 @@ module _ (carrier : Carrier) (style code : ℕ) (s : List ℕ) where
       go (mark m) h a = absurd a
 
 -- outside: a mark that starts a request is its heading
-pub right-of : (a b : Bool) → a && b ≡ true → b ≡ true
-right-of true b h = h
-right-of false b h = absurd (true≢false (sym h))
-
 marked : (carrier : Carrier) (m : ℕ) → starts carrier m ≡ true → seen true carrier ++ (m ∷ []) ≡ heading carrier (styleOf m) (codeIn m)
 unfolding startsRequest
 marked serial m h = let q : m ≡ m / 32 * 32 + m % 32 = omega arith in ap (λ (z : ℕ). escape ∷ z ∷ []) q
 marked parallel m h =
-    let n = leb-true m 0x16 (right-of (not (bit m 1)) (leb m 0x16) h) in
+    let n = code-most m h in
     let q : m ≡ m % 32 = omega arith in
     ap (λ (z : ℕ). z ∷ []) q
 

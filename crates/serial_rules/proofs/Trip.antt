@@ -16,7 +16,8 @@ use Rattle.serial_rules.specs.Body.{Turn, more, done, stringTurn, fixedT
 use Rattle.serial_rules.specs.Reader.{Reader, Answer, needMore, character, refusal, outside, inside, request, Step, begun, turned, step}
 use Rattle.serial_rules.specs.Stream.{Fed, gave, fedBy, feed, answers, Gives}
 use Rattle.serial_rules.proofs.Escape.{escaped-one}
-use Rattle.serial_rules.proofs.Stream.{carried-append, carried-none, right-of}
+use Rattle.serial_rules.proofs.Limits.{code-most, string-more, name-more, name-return}
+use Rattle.serial_rules.proofs.Stream.{carried-append, carried-none}
 
 -- what a step makes of the raw bytes that follow it
 abbrev fedStep : Carrier → Step → List ℕ → Fed
@@ -78,7 +79,7 @@ start-fed : (carrier : Carrier) (style code : ℕ) (r : List ℕ) → styleOk ca
 unfolding feed step startsRequest
 start-fed serial style code r s k =
     let low = leb-true style 3 s in
-    let most = leb-true code 0x16 (right-of (not (bit code 1)) (leb code 0x16) k) in
+    let most = code-most code k in
     let m = style * 32 + code in
     let d : (style * 32 + code) / 32 ≡ style = omega arith in
     let q : (style * 32 + code) % 32 ≡ code = omega arith in
@@ -86,7 +87,7 @@ start-fed serial style code r s k =
     let h : bit (style * 32 + code) 128 ≡ false = ne-eqb (m / 128 % 2) 1 (λ h. omega arith) in
     simp (n, h, q, d, k)
 start-fed parallel style code r s k =
-    let most = leb-true code 0x16 (right-of (not (bit code 1)) (leb code 0x16) k) in
+    let most = code-most code k in
     let z : style ≡ 0 = eqb-true style 0 s in
     let d : code / 32 ≡ 0 = omega arith in
     let q : code % 32 ≡ code = omega arith in
@@ -144,15 +145,6 @@ fixed-more n last h = simp (lt-ltb n last h)
 fixed-done : (n last : ℕ) → n ≡ last → fixedTurn n last ≡ done
 fixed-done n last h = simp (le-ltb n last (omega arith))
 
-string-more : (n b : ℕ) → n < 255 → NoReturn b → stringTurn n b ≡ more
-string-more n b h f = simp (f, lt-ltb n 255 h)
-
-name-more : (n b : ℕ) → n < 255 → NoReturn b → nameTurn n b ≡ more
-name-more n b h f = simp (f, lt-ltb n 255 h)
-
-name-return : (n : ℕ) → n ≤ 255 → nameTurn n return ≡ more
-name-return n h = simp (le-leb n 255 h)
-
 -- the end of a name
 open-name : (u : List ℕ) → All NoReturn u → ended u ≡ false
 unfolding ended
@@ -202,7 +194,7 @@ unsnoc (x ∷ y ∷ l) (suc n) h =
 oscli-whole : (t : List ℕ) → length t ≤ 255 → All NoReturn t → Whole 0x02 (t ++ (return ∷ []))
 unfolding bodyTurn
 oscli-whole t h a =
-    record { init = t; last = return; joined = refl; goes = goes-by 0x02 255 [] NoReturn (λ u b l _ o. string-more (length u) b l o) t a h; ends = refl }
+    record { init = t; last = return; joined = refl; goes = goes-by 0x02 255 [] NoReturn (λ u b l _ o. string-more (length u) b o l) t a h; ends = refl }
 
 osword-whole : (a : ℕ) (b : List ℕ) (out : ℕ) → eqb a 0 ≡ false → Whole 0x08 (a ∷ length b ∷ (b ++ (out ∷ [])))
 unfolding bodyTurn
@@ -229,7 +221,7 @@ open-whole a t f h n =
       init = a ∷ t;
       last = return;
       joined = refl;
-      goes = (refl, goes-by 0x12 255 (a ∷ []) NoReturn (λ u b l _ o. simp (f, string-more (length u) b l o)) t n h);
+      goes = (refl, goes-by 0x12 255 (a ∷ []) NoReturn (λ u b l _ o. simp (f, string-more (length u) b o l)) t n h);
       ends = simp f;
     }
 
@@ -246,7 +238,7 @@ osfile-whole b t a h l n =
           goes-append 0x14 [] (b ++ t) (return ∷ [])
           (goes-append 0x14 [] b t (goes-by 0x14 16 [] Any (λ u x l _ _. simp (lt-ltb (length u) 16 l)) b (all-any b) (omega arith))
           (goes-by 0x14 255 b NoReturn
-          (λ u x l o n. file-open (b ++ u) x (omega (arith, long u)) (ap ended (name u) ∙ open-name u o) ∙ name-more (length (b ++ u) - 16) x (omega (arith, long u)) n) t n l))
+          (λ u x l o n. file-open (b ++ u) x (omega (arith, long u)) (ap ended (name u) ∙ open-name u o) ∙ name-more (length (b ++ u) - 16) x n (omega (arith, long u))) t n l))
           (file-open (b ++ t) return (omega (arith, long t)) (ap ended (name t) ∙ open-name t n) ∙ name-return (length (b ++ t) - 16) (omega (arith, long t)), tt);
       ends =
           file-ended ((b ++ t) ++ (return ∷ [])) a (omega (arith, length-append (b ++ t) (return ∷ []), long t))
