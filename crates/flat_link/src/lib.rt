@@ -4,7 +4,7 @@ ghost use Prim.Native.Nat.{_≤_};
 ghost use mathlib.Core.Path.{_≡_};
 ghost use Rattle.link.specs.View.{begunOf};
 ghost use Rattle.flat_link.specs.Kinds.{kindAt, kindNumber, kindOut, Flat-kind-done};
-ghost use Rattle.flat_link.specs.Links.{waitAt, doingAt, linkOf, tagsOk, freshLink, waitNumber, waitOut, doingNumber, flatOf, toldWith, flatTold, flatBegun, Flat-step-done, Flat-begin-done};
+ghost use Rattle.flat_link.specs.Links.{waitAt, doingAt, linkOf, tagsOk, freshLink, waitNumber, waitOut, doingNumber, flatOf, toldWith, flatTold, flatBegun, Flat-begin-done};
 ghost use Rattle.flat_link.specs.Runs.{flatRan, flatUnknown, ranWith, Flat-run-done};
 ghost use Rattle.flat_link.specs.Replies.{replyAt, replyKnown, flatGiven, givenWith, Flat-reply-done, Flat-read-done};
 use fields::Written;
@@ -137,30 +137,6 @@ pub fn run(
         return flat_ran(link, unflattened(link).run(raw, reply, own, room));
     }
     unknown(link, raw.len(), room.len())
-}
-
-// One raw byte, as a slice: so `Link::run` stays the one caller of `Link::step`, which is what makes it fast. Where the loop wrote a note, that
-// is the answer: the notes' kinds are the answers' own.
-pub fn step(link: FlatLink, raw: u8, reply: &mut [u8; 257], own: &mut [u8; 257]) -> FlatTold
-    ensures { λ r. ⌜ Flat-step-done link (now (reply .entry)) (now (own .entry)) raw r (now (reply .exit)) (now (own .exit)) ⌝ }
-{
-    let one = [raw];
-    let mut note = [0u8; 5];
-    let ran = run(link, &one, reply, own, &mut note);
-    let told = ran.told;
-    if ran.noted == 0 {
-        return told;
-    }
-    let next = told.link;
-    FlatTold {
-        link: next,
-        length: 0,
-        kind: note[0],
-        first: note[1],
-        second: note[2],
-        third: note[3],
-        fourth: note[4],
-    }
 }
 
 // The loop's flat result, beside the record given.

@@ -112,7 +112,8 @@ pub extern "C" fn tube_run(
     flat_link::run(link, raw, reply, own, room)
 }
 
-// One raw byte: see `flat_link::step`.
+// One raw byte, as a slice: so `Link::run` stays the one caller of `Link::step`, and `tube_run` of it, which is what makes them fast
+// (docs/DECISIONS.md, 'Speed'). Where the loop wrote a note, that is the answer: the notes' kinds are the answers' own.
 #[no_mangle]
 pub extern "C" fn tube_link_step(
     link: FlatLink,
@@ -122,7 +123,23 @@ pub extern "C" fn tube_link_step(
 ) -> FlatTold
     ensures { λ r. ⌜ Flat-step-done link (now (reply .entry)) (now (own .entry)) raw r (now (reply .exit)) (now (own .exit)) ⌝ }
 {
-    flat_link::step(link, raw, reply, own)
+    let one = [raw];
+    let mut note = [0u8; 5];
+    let ran = tube_run(link, &one, reply, own, &mut note);
+    let told = ran.told;
+    if ran.noted == 0 {
+        return told;
+    }
+    let next = told.link;
+    FlatTold {
+        link: next,
+        length: 0,
+        kind: note[0],
+        first: note[1],
+        second: note[2],
+        third: note[3],
+        fourth: note[4],
+    }
 }
 
 // Writes a reply: see `flat_link::write_reply`.
