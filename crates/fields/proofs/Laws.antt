@@ -7,9 +7,9 @@ use mathlib.Core.Path.{_≡_, refl, sym, ap, _∙_}
 use mathlib.Core.Bool.{Bool, true, false, cond, not, _||_, or-assoc, or-false, true≢false}
 use mathlib.Core.List.{List, [], _∷_, _++_, append-assoc, append-nil}
 use borrow.Author.Needs.{needs}
-use borrow.Author.Tests.{lt-ltb, le-ltb, ltb-true, ltb-false}
-use lib.Dec.{eqb, ltb}
-use lib.ListN.{length, take, drop, getD, set, length-append, drop-of-length-le}
+use borrow.Author.Tests.{lt-ltb, le-ltb, ltb-false, leb-true, leb-false}
+use lib.Dec.{eqb, leb, ltb}
+use lib.ListN.{length, take, drop, getD, set, length-append}
 use lib.Seq.{drop-cons, take-suc, set-at}
 use Rattle.serial_rules.specs.Escape.{escape, escaped, escapes}
 use Rattle.serial_rules.proofs.Escape.{escaped-length, escaped-most}
@@ -140,22 +140,16 @@ module _ {w out left : List ℕ} {n : ℕ} (d : Length-done w out n left) where
       let p = le-ltb (length out) (length w) (omega arith) in
       record { answer = rw p; written = rw p (sym none); bytes = rw p (rw p at (d .bytes-are)) }
 
--- Whether there is a byte in a heading and three fields; they have one where their raw bytes do.
-module _ (h a b c : List ℕ) where
-  lengths : length (h ++ (a ++ (b ++ c))) ≡ length h + (length a + (length b + length c))
-  lengths = simp length-append
+-- A heading and fields that fit into no room have no raw byte.
+none-raw : (flag : Bool) (h l : List ℕ) → leb (length (coded false (h ++ l))) 0 ≡ true → length (h ++ coded flag l) ≡ 0
+none-raw flag h l e =
+    let n = rw (plain-parallel (h ++ l), length-append) at (leb-true (length (coded false (h ++ l))) 0 e) in
+    rw length-append (omega (arith, coded-most flag l))
 
-  pub some-byte : 0 < length h + (length a + (length b + length c)) → true ≡ ltb 0 (length (h ++ (a ++ (b ++ c))))
-  some-byte more = sym (lt-ltb 0 (length (h ++ (a ++ (b ++ c)))) (omega (arith, lengths)))
-
-  pub no-byte : length h + (length a + (length b + length c)) ≤ 0 → false ≡ ltb 0 (length (h ++ (a ++ (b ++ c))))
-  no-byte none = sym (le-ltb 0 (length (h ++ (a ++ (b ++ c)))) (omega (arith, lengths)))
-
-some-raw : (flag : Bool) (h l : List ℕ) → ltb 0 (length (h ++ l)) ≡ true → 0 < length (h ++ coded flag l)
-some-raw flag h l e = rw length-append (omega (arith, coded-length flag l, rw length-append at (ltb-true 0 (length (h ++ l)) e)))
-
-no-raw : (flag : Bool) (h l : List ℕ) → ltb 0 (length (h ++ l)) ≡ false → length (h ++ coded flag l) ≡ 0
-no-raw flag h l e = rw length-append (omega (arith, coded-most flag l, rw length-append at (ltb-false 0 (length (h ++ l)) e)))
+some-raw : (flag : Bool) (h l : List ℕ) → leb (length (coded false (h ++ l))) 0 ≡ false → 0 < length (h ++ coded flag l)
+some-raw flag h l e =
+    let n = rw (plain-parallel (h ++ l), length-append) at (leb-false (length (coded false (h ++ l))) 0 e) in
+    rw length-append (omega (arith, coded-length flag l))
 
 -- What the length tells of three fields, which are four of which the last is empty.
 module _ (flag : Bool) (h a b c : List ℕ) {out left : List ℕ} {n : ℕ} (d : Length-done (partsRaw flag h a b c []) out n left) where
@@ -165,8 +159,8 @@ module _ (flag : Bool) (h a b c : List ℕ) {out left : List ℕ} {n : ℕ} (d :
   pub wrote-three : 0 < n → Fields-done flag h a b c out (Done n) left
   wrote-three some = told-done three some
 
-  pub refused-three : {some : Bool} → n ≤ 0 → some ≡ ltb 0 (length (h ++ (a ++ (b ++ c)))) → some ≡ true → Fields-done flag h a b c out NoRoom left
-  refused-three none e is = told-none three (some-raw flag h (a ++ (b ++ c)) (sym e ∙ is)) (omega arith)
+  pub wrote-none : {none : Bool} → none ≡ leb (length (coded false (h ++ (a ++ (b ++ c))))) 0 → none ≡ true → Fields-done flag h a b c out (Done 0) left
+  wrote-none e is = told-empty three (none-raw flag h (a ++ (b ++ c)) (sym e ∙ is))
 
-  pub wrote-none : {some : Bool} → some ≡ ltb 0 (length (h ++ (a ++ (b ++ c)))) → some ≡ false → Fields-done flag h a b c out (Done 0) left
-  wrote-none e is = told-empty three (no-raw flag h (a ++ (b ++ c)) (sym e ∙ is))
+  pub refused-three : {none : Bool} → n ≤ 0 → none ≡ leb (length (coded false (h ++ (a ++ (b ++ c))))) 0 → none ≡ false → Fields-done flag h a b c out NoRoom left
+  refused-three z e is = told-none three (some-raw flag h (a ++ (b ++ c)) (sym e ∙ is)) (omega arith)

@@ -41,29 +41,11 @@ pub fn write_fields(
     if 0 < n {
         return Written::Done(n);
     }
-    if has_bytes(heading, first, second, third) {
-        return Written::NoRoom;
+    let empty = fields_fit(false, heading, first, second, third, 0);
+    if empty {
+        return Written::Done(0);
     }
-    Written::Done(0)
-}
-
-// Whether there is a byte in a heading and three fields.
-fn has_bytes(heading: &[u8], first: &[u8], second: &[u8], third: &[u8]) -> bool
-    ensures { λ r. ⌜ r ≡ ltb 0 (length (now (heading .entry) ++ (now (first .entry) ++ (now (second .entry) ++ now (third .entry))))) ⌝ }
-{
-    if heading.len() != 0 {
-        return true;
-    }
-    if first.len() != 0 {
-        return true;
-    }
-    if second.len() != 0 {
-        return true;
-    }
-    if third.len() != 0 {
-        return true;
-    }
-    false
+    Written::NoRoom
 }
 
 // The same for four fields, answered by the length alone, 0 where the whole does not fit: a number comes back in a register, an enum

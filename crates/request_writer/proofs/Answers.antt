@@ -9,6 +9,7 @@ use lib.Dec.{ltb}
 use lib.ListN.{length}
 use Rattle.serial_rules.specs.Call.{Carrier, serial, parallel, stringLimit, callOk, heading, styleOk, encodingOf, writerNumber}
 use Rattle.serial_rules.specs.Call as rules
+use Rattle.serial_rules.proofs.Trip.{and-both}
 use Rattle.fields.specs.declared.Written.the-variants.{Done, TooLong, BadField, NoRoom}
 use Rattle.fields.specs.Carriers.{carrierOf, coded}
 use Rattle.fields.specs.Promise.{Length-done}
@@ -18,7 +19,7 @@ use Rattle.request_writer.specs.declared.Row.{Row}
 use Rattle.request_writer.specs.Calls.{callOf}
 use Rattle.request_writer.specs.Promise.{Request-done}
 use Rattle.request_writer.specs.Rows.{lengthByte, headIn, tailIn, givenOk, Row-done, Writable}
-use Rattle.request_writer.proofs.Rows.{both-true, rules-same, code-fits, written}
+use Rattle.request_writer.proofs.Rows.{rules-same, code-fits, written}
 
 -- The number of the answer after each check.
 module _ (carrier : Carrier) (style : ℕ) (call : rules.Call) (b t : List ℕ) (room : ℕ) where
@@ -59,7 +60,7 @@ module _ (flag : Bool) (style : ℕ) (call : Call) (b t out : List ℕ) {n : ℕ
     all-ok = sym judged ∙ not-false ok h
 
     kept : (styleOk (carrierOf flag) style ≡ true) × (callOk (callOf call) b t ≡ true)
-    kept = both-true (styleOk (carrierOf flag) style) (callOk (callOf call) b t) all-ok
+    kept = and-both (styleOk (carrierOf flag) style) (callOk (callOf call) b t) all-ok
 
     pub writable : Writable flag style row
     writable = record { style-kept = kept .0; code-small = code-fits b t d byte; before-fits = d .before-fits; behind-fits = d .behind-fits }

@@ -1,24 +1,22 @@
 -- What a row of the request table says of the rules of its call and of its body; what is given, against a row; the heading.
 use Prim.Native.Nat.{ℕ, _+_, _-_, _*_, _≤_}
 use native.Mathlib.Omega.{arith}
-use mathlib.Core.Path.{_≡_, refl, sym}
-use mathlib.Core.Bool.{Bool, true, false, cond, not, _&&_, _||_, true≢false}
+use mathlib.Core.Path.{_≡_, refl}
+use mathlib.Core.Bool.{Bool, true, false, cond, not, _&&_, _||_}
 use mathlib.Core.List.{List, [], _∷_, _++_, append-nil}
 use borrow.Author.Tests.{eq-eqb, ne-eqb, eqb-true, leb-true, leb-false}
 use lib.Dec.{eqb, leb}
 use lib.ListN.{length, take, drop}
 use Rattle.serial_rules.specs.Escape.{escape}
 use Rattle.serial_rules.specs.Call.{Call, osrdch, oscli, osbyteLow, osbyteHigh, osword, osword0, osargs, osbget, osbput, osfindClose, osfindOpen, osfile, osgbpb, codeOf, bodyOf, blockOk, hasString, numbersOk, hasReturn, callOk, heading, styleOk, encodingOf}
+use Rattle.serial_rules.proofs.Trip.{and-both}
 use Rattle.fields.specs.Carriers.{carrierOf, coded}
 use Rattle.fields.specs.Promise.{Length-done}
+use Rattle.fields.proofs.Wrote.{no-string}
 use Rattle.request_writer.specs.declared.Call as code
 use Rattle.request_writer.specs.declared.Row.{Row}
 use Rattle.request_writer.specs.Calls.{callOf}
 use Rattle.request_writer.specs.Rows.{lengthByte, headStart, headIn, tailIn, givenOk, blockLength, headOf, tailOf, Row-done}
-
-pub both-true : (a b : Bool) → a && b ≡ true → (a ≡ true) × (b ≡ true)
-both-true true b h = (refl, h)
-both-true false b h = absurd (true≢false (sym h))
 
 -- The length that a row asks of the block is the one that the call's rule asks; OSWORD takes every length that is a byte.
 any-byte : (n : ℕ) (t : Bool) → leb n 255 ≡ t → eqb n (cond t n 0) ≡ t
@@ -101,16 +99,10 @@ module _ {call : Call} {n : ℕ} {row : Row} (b t : List ℕ) (d : Row-done call
   unfolding encodingOf coded callOk
   written flag style ok w =
       let strings = (hasString call || eqb (length t) 0) && not (hasReturn t) in
-      let y = both-true (numbersOk call) (blockOk call (length b) && strings) ok in
-      let z = both-true (blockOk call (length b)) strings (y .1) in
-      let k = both-true (hasString call || eqb (length t) 0) (not (hasReturn t)) (z .1) in
+      let y = and-both (numbersOk call) (blockOk call (length b) && strings) ok in
+      let z = and-both (blockOk call (length b)) strings (y .1) in
+      let k = and-both (hasString call || eqb (length t) 0) (not (hasReturn t)) (z .1) in
       rw (d .code-is, d .head-is, d .tail-is, is, body-same call b t (z .0) (k .0)) at w
-
--- an empty string holds no byte
-none-holds : (t : List ℕ) → eqb (length t) 0 ≡ (eqb (length t) 0 && not (hasReturn t))
-unfolding hasReturn
-none-holds [] = refl
-none-holds (x ∷ t) = let e = ne-eqb (length (x ∷ t)) 0 (λ z. omega (arith, z)) in rw e
 
 -- What is given against a row, after the test of the style: the first that is broken refuses, and a string stands only where the row has one.
 module _ {style : Bool} (row : Row) (b t : List ℕ) where
@@ -130,9 +122,9 @@ module _ {style : Bool} (row : Row) (b t : List ℕ) where
   unfolding givenOk
   string-given e good block string f = rw (e, good, eq-eqb (length b) (row .block) block, string, f)
 
-  pub no-string : style ≡ true → row .good ≡ true → length b ≡ row .block → row .string ≡ false → eqb (length t) 0 ≡ (style && givenOk row b t)
+  pub string-missing : style ≡ true → row .good ≡ true → length b ≡ row .block → row .string ≡ false → eqb (length t) 0 ≡ (style && givenOk row b t)
   unfolding givenOk
-  no-string e good block string = rw (e, good, eq-eqb (length b) (row .block) block, string) (none-holds t)
+  string-missing e good block string = rw (e, good, eq-eqb (length b) (row .block) block, string) (no-string t)
 
 -- The heading is the tail of the escape and the mark: both, or on the parallel side the second, which is the plain code.
 pub style-fits : (flag : Bool) (style : ℕ) → styleOk (carrierOf flag) style ≡ true → style ≤ 3

@@ -28,19 +28,6 @@ pub enum Call {
     Osgbpb { a: u8 },
 }
 
-// What the request table says of a call: its code, whether its numbers keep their rules, how long its block is and whether it has a string;
-// and the numbers of its body, the first `before` of `head` before block and string, the first `behind` of `tail` behind them.
-struct Row {
-    code: u8,
-    good: bool,
-    block: u8,
-    string: bool,
-    head: [u8; 3],
-    before: usize,
-    tail: [u8; 2],
-    behind: usize,
-}
-
 // Writes a request for the serial lead into the start of `out`; a refused one has touched no byte.
 pub fn write_serial(style: u8, call: Call, block: &[u8], text: &[u8], out: &mut [u8]) -> Written
     ensures { λ r. ⌜ Request-done serial style call (now (block .entry)) (now (text .entry)) (now (out .entry)) r (now (out .exit)) ⌝ }
@@ -73,11 +60,24 @@ fn write(serial: bool, style: u8, call: Call, block: &[u8], text: &[u8], out: &m
     Written::Done(n)
 }
 
-// The in length of OSWORD as a byte; 0, which is another length, where it is too long.
+// A block's length as a byte; 0, which is not its length, where it is too long.
 fn length_byte(length: usize) -> u8
     ensures { λ r. ⌜ r ≡ lengthByte length ⌝ }
 {
     if length <= 255 { length as u8 } else { 0 }
+}
+
+// What the request table says of a call: its code, whether its numbers keep their rules, how long its block is and whether it has a string;
+// and the numbers of its body, the first `before` of `head` before block and string, the first `behind` of `tail` behind them.
+struct Row {
+    code: u8,
+    good: bool,
+    block: u8,
+    string: bool,
+    head: [u8; 3],
+    before: usize,
+    tail: [u8; 2],
+    behind: usize,
 }
 
 // The row of a call, whose block has the length `length`.

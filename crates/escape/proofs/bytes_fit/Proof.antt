@@ -1,8 +1,6 @@
 -- The number of bytes is taken from the room first; what is left has room for each of them once more, or for the escape bytes that are counted.
 use borrow.Author.Needs.{needs}
-use mathlib.Core.Path.{ap, _∙_}
 use denote.Ref.{now}
-use lib.Dec.{leb}
 use Rattle.escape.proofs.Laws.{too-many, doubled, counted}
 use Rattle.escape.proofs.bytes_fit.Statement.{statement}
 use Rattle.escape.proofs.bytes_fit.Tie as tie

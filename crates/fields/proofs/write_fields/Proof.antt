@@ -1,7 +1,7 @@
 -- A length tells a write; 0 tells a refusal, or that there is no byte to write.
 use borrow.Author.Needs.{needs}
 use denote.Ref.{now}
-use Rattle.fields.proofs.Laws.{wrote-three, refused-three, wrote-none}
+use Rattle.fields.proofs.Laws.{wrote-three, wrote-none, refused-three}
 use Rattle.fields.proofs.write_fields.Statement.{statement}
 use Rattle.fields.proofs.write_fields.Tie as tie
 
@@ -15,15 +15,15 @@ returns-2 : tie.Need-returns-2
 returns-2 c =
     let w = c .before .before .before .before .before in
     let a = w .before .before .before .before .before .before .before .before .args in
-    refused-three (a .serial) (now (a .heading)) (now (a .first)) (now (a .second)) (now (a .third)) (w .write-length .ensures)
-    (c .before .before .if1 .left) (c .before .has-bytes .ensures) (c .if2 .taken)
+    wrote-none (a .serial) (now (a .heading)) (now (a .first)) (now (a .second)) (now (a .third)) (w .write-length .ensures)
+    (c .before .fields-fit .ensures) (c .if2 .taken)
 
 returns-3 : tie.Need-returns-3
 returns-3 c =
     let w = c .before .before .before .before .before in
     let a = w .before .before .before .before .before .before .before .before .args in
-    wrote-none (a .serial) (now (a .heading)) (now (a .first)) (now (a .second)) (now (a .third)) (w .write-length .ensures)
-    (c .before .has-bytes .ensures) (c .if2 .left)
+    refused-three (a .serial) (now (a .heading)) (now (a .first)) (now (a .second)) (now (a .third)) (w .write-length .ensures)
+    (c .before .before .if1 .left) (c .before .fields-fit .ensures) (c .if2 .left)
 
 pub write-fields-spec : {M : Type 1} → statement M
 write-fields-spec =

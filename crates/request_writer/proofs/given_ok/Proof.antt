@@ -2,7 +2,7 @@
 use borrow.Author.Needs.{needs}
 use borrow.Author.Tests.{not-true, not-false}
 use mathlib.Core.Path.{sym, _∙_}
-use Rattle.request_writer.proofs.Rows.{style-broken, number-broken, block-broken, string-given, no-string}
+use Rattle.request_writer.proofs.Rows.{style-broken, number-broken, block-broken, string-given, string-missing}
 use Rattle.request_writer.proofs.given_ok.Statement.{statement}
 use Rattle.request_writer.proofs.given_ok.Tie as tie
 
@@ -30,7 +30,7 @@ returns-5 : tie.Need-returns-5
 returns-5 c =
     let l = c .before .before .before .before .before in
     let g = c .before .before .before in
-    no-string _ _ _ (sym (l .before .style-ok .ensures) ∙ not-false _ (l .if1 .left)) (not-false _ (g .if2 .left)) (c .before .if3 .left) (c .if4 .left)
+    string-missing _ _ _ (sym (l .before .style-ok .ensures) ∙ not-false _ (l .if1 .left)) (not-false _ (g .if2 .left)) (c .before .if3 .left) (c .if4 .left)
 
 pub given-ok-spec : {M : Type 1} → statement M
 given-ok-spec =
