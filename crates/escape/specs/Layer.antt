@@ -3,7 +3,7 @@ use Prim.Native.Nat.{ℕ}
 use mathlib.Core.Path.{_≡_}
 use mathlib.Core.Bool.{Bool, cond}
 use mathlib.Core.List.{List, _++_}
-use lib.Dec.{leb}
+use lib.Dec.{eqb, leb}
 use lib.ListN.{length, drop}
 use Rattle.serial_rules.specs.Escape as rules
 use Rattle.escape.specs.declared.Piece.{Piece}
@@ -15,6 +15,10 @@ abbrev pub pieceFor : Piece → rules.Piece
 pieceFor Pending = rules.pending
 pieceFor (Data b) = rules.dataByte b
 pieceFor (Mark m) = rules.mark m
+
+-- one for an escape byte, else none
+abbrev pub isEscape : ℕ → ℕ
+isEscape b = cond (eqb b rules.escape) 1 0
 
 -- Document 01's number of a writer's answer, and the bytes written.
 abbrev pub number : Written → ℕ

@@ -6,9 +6,9 @@ ghost use mathlib.Core.Path.{_≡_};
 ghost use mathlib.Core.List.{[], _∷_};
 ghost use lib.Dec.{leb};
 ghost use lib.ListN.{length};
-ghost use Rattle.serial_rules.specs.Escape.{pieceOf, escaped};
+ghost use Rattle.serial_rules.specs.Escape.{pieceOf, escaped, escapes};
 ghost use Rattle.serial_rules.specs.Marks.{outwardClass, inwardClass};
-ghost use Rattle.escape.specs.Layer.{pieceFor, Data-done};
+ghost use Rattle.escape.specs.Layer.{pieceFor, isEscape, Data-done};
 ghost use Rattle.escape.specs.Put.{Put};
 
 // A raw byte, seen through the escape layer: an escape that needs the next byte, a data byte, or a mark.
@@ -56,27 +56,38 @@ pub fn write_data(bytes: &[u8], out: &mut [u8]) -> Written
     Written::NoRoom
 }
 
-// Whether the raw bytes of data bytes fit into `room` bytes. What is left of the room is counted down, so that no sum overflows.
+// Whether the raw bytes of data bytes fit into `room` bytes. The escape bytes are counted only where all bytes doubled would not fit.
 fn bytes_fit(bytes: &[u8], room: usize) -> bool
     ensures { λ r. ⌜ r ≡ leb (length (escaped (now (bytes .entry)))) room ⌝ }
 {
-    let mut left = room;
-    let mut i: usize = 0;
-    while i < bytes.len() {
-        let raw = raw_length(bytes[i]);
-        if left < raw {
-            return false;
-        }
-        left -= raw;
-        i += 1;
+    if room < bytes.len() {
+        return false;
     }
-    true
+    let spare = room - bytes.len();
+    if bytes.len() <= spare {
+        return true;
+    }
+    count_escapes(bytes) <= spare
 }
 
-fn raw_length(byte: u8) -> usize
-    ensures { λ r. ⌜ r ≡ length (escaped (byte ∷ [])) ⌝ }
+// How many of the bytes are escape bytes.
+pub fn count_escapes(bytes: &[u8]) -> usize
+    ensures { λ r. ⌜ r ≡ escapes (now (bytes .entry)) ⌝ }
 {
-    if byte == Piece::ESCAPE { 2 } else { 1 }
+    let mut n: usize = 0;
+    let mut i: usize = 0;
+    while i < bytes.len() {
+        n += is_escape(bytes[i]);
+        i += 1;
+    }
+    n
+}
+
+// One for an escape byte, else none.
+fn is_escape(byte: u8) -> usize
+    ensures { λ r. ⌜ (r ≡ isEscape byte) × (r ≤ 1) ⌝ }
+{
+    if byte == Piece::ESCAPE { 1 } else { 0 }
 }
 
 // Writes the raw bytes of data bytes, for which there is room; returns how many.
@@ -93,16 +104,15 @@ fn put_bytes(bytes: &[u8], out: &mut [u8]) -> usize
     at
 }
 
+// The second store is to the next place where the byte is the escape, else to the same: no branch waits for the byte.
 fn put_byte(byte: u8, out: &mut [u8]) -> usize
     requires { ⌜ length (escaped (byte ∷ [])) ≤ length (now out) ⌝ }
     ensures { λ r. ⌜ Put (escaped (byte ∷ [])) (now (out .entry)) (now (out .exit)) r ⌝ }
 {
+    let more = is_escape(byte);
     out[0] = byte;
-    if byte == Piece::ESCAPE {
-        out[1] = byte;
-        return 2;
-    }
-    1
+    out[more] = byte;
+    1 + more
 }
 
 // The class of a mark outward: 1 starts a request, 0 is not carried.

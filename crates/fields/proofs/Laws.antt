@@ -1,24 +1,24 @@
--- Laws of the field writers: data bytes on either carrier, one field after another, what the three loops pass, and what the writer promises.
-use Prim.Native.Nat.{ℕ, suc, _+_, _-_, _≤_, _<_}
+-- Laws of the field writers: data bytes on either carrier, one field after another, what the two loops pass, and what the writers promise.
+use Prim.Native.Nat.{ℕ, suc, _+_, _-_, _*_, _≤_, _<_}
 use native.Mathlib.Nat.{zero-add}
 use native.Mathlib.Numerals.{add-one}
 use native.Mathlib.Omega.{arith}
 use mathlib.Core.Path.{_≡_, refl, sym, ap, _∙_}
-use mathlib.Core.Bool.{Bool, true, false, cond, _||_, or-assoc, or-false, true≢false}
-use mathlib.Core.List.{List, [], _∷_, _++_, append-assoc}
+use mathlib.Core.Bool.{Bool, true, false, cond, not, _||_, or-assoc, or-false, true≢false}
+use mathlib.Core.List.{List, [], _∷_, _++_, append-assoc, append-nil}
 use borrow.Author.Needs.{needs}
-use borrow.Author.Tests.{lt-ltb, le-ltb, ltb-false}
-use lib.Dec.{eqb, ltb}
-use lib.ListN.{length, take, drop, getD, set, length-append, drop-of-length-le}
+use borrow.Author.Tests.{lt-ltb, le-ltb, ltb-false, leb-true, leb-false}
+use lib.Dec.{eqb, leb, ltb}
+use lib.ListN.{length, take, drop, getD, set, length-append}
 use lib.Seq.{drop-cons, take-suc, set-at}
 use Rattle.serial_rules.specs.Escape.{escape, escaped, escapes}
-use Rattle.serial_rules.proofs.Escape.{escaped-length}
+use Rattle.serial_rules.proofs.Escape.{escaped-length, escaped-most}
 use Rattle.serial_rules.proofs.Stream.{carried-append}
 use Rattle.escape.specs.Put.{over, Put}
-use Rattle.escape.proofs.Laws.{put-as, put-tail, tail-room}
+use Rattle.escape.proofs.Laws.{put-as, put-tail, tail-room, escapes-more, escapes-none}
 use Rattle.fields.specs.declared.Written.the-variants.{Done, NoRoom}
-use Rattle.fields.specs.Carriers.{carrierOf, coded, addedOn, isEscape}
-use Rattle.fields.specs.Promise.{count, Encoded}
+use Rattle.fields.specs.Carriers.{carrierOf, coded, addedOn, partsRaw, fieldsRaw}
+use Rattle.fields.specs.Promise.{Encoded, Fields-done, Length-done}
 
 -- Data bytes without an escape byte stand as they are.
 plain-more : (x : ℕ) (l : List ℕ) (t : Bool) → (escapes l ≡ 0 → escaped l ≡ l) → cond t 1 0 + escapes l ≡ 0
@@ -31,33 +31,33 @@ unfolding escaped escapes
 escaped-plain [] h = refl
 escaped-plain (x ∷ l) h = plain-more x l (eqb x escape) (escaped-plain l) h
 
--- Data bytes on a carrier: those to which it adds none, the others, and how many they are.
-pub adds-none : (n : ℕ) → ltb 0 n ≡ false → n ≡ 0
-adds-none n h = omega (arith, ltb-false 0 n h)
-
-pub adds-some : (flag : Bool) (l : List ℕ) → ltb 0 (addedOn flag l) ≡ true → escapes l ≡ addedOn flag l
-unfolding addedOn
-adds-some true l h = refl
-adds-some false l h = absurd (true≢false (sym h))
-
-pub coded-plain : (flag : Bool) (l : List ℕ) → ltb 0 (addedOn flag l) ≡ false → coded flag l ≡ l
-unfolding coded addedOn
-coded-plain true l h = escaped-plain l (adds-none (escapes l) h)
-coded-plain false l h = refl
-
+-- Data bytes on a carrier: as they are on the parallel side and where there is no escape byte, else escaped; and how many they are.
 pub plain-parallel : (l : List ℕ) → coded false l ≡ l
 unfolding coded
 plain-parallel l = refl
 
-pub coded-escaped : (flag : Bool) (l : List ℕ) → ltb 0 (addedOn flag l) ≡ true → coded flag l ≡ escaped l
-unfolding coded addedOn
-coded-escaped true l h = refl
-coded-escaped false l h = absurd (true≢false (sym h))
+pub coded-parallel : (flag : Bool) (l : List ℕ) → not flag ≡ true → coded flag l ≡ l
+unfolding coded
+coded-parallel true l h = absurd (true≢false (sym h))
+coded-parallel false l h = refl
+
+pub coded-serial : (flag : Bool) (l : List ℕ) → not flag ≡ false → coded flag l ≡ escaped l
+unfolding coded
+coded-serial true l h = refl
+coded-serial false l h = absurd (true≢false h)
+
+pub coded-plain : (flag : Bool) (l : List ℕ) {found : Bool} → not flag ≡ false → found ≡ ltb 0 (escapes l) → found ≡ false → coded flag l ≡ l
+coded-plain flag l h e is = coded-serial flag l h ∙ escaped-plain l (omega (arith, ltb-false 0 (escapes l) (sym e ∙ is)))
 
 pub coded-length : (flag : Bool) (l : List ℕ) → length (coded flag l) ≡ length l + addedOn flag l
 unfolding coded addedOn
 coded-length true l = escaped-length l
 coded-length false l = omega arith
+
+pub coded-most : (flag : Bool) (l : List ℕ) → length (coded flag l) ≤ 2 * length l
+unfolding coded
+coded-most true l = escaped-most l
+coded-most false l = omega arith
 
 pub pair-length : (flag : Bool) (x y : List ℕ) → length (coded flag (x ++ y)) ≡ length (coded flag x) + length (coded flag y)
 unfolding coded
@@ -80,16 +80,6 @@ put-pair flag x y a b = put-as (sym (carried-append (carrierOf flag) x y)) (put-
 -- what a writer of two fields needs
 pub ruleset fields = (first-room, second-room, put-pair, needs)
 
--- The escape bytes from i on.
-module _ (l : List ℕ) (i : ℕ) where
-  pub escapes-more : i < length l → escapes (drop i l) ≡ isEscape (getD l i 0) + escapes (drop (i + 1) l)
-  unfolding escapes
-  escapes-more h = rw (add-one, drop-cons l i 0 h)
-
-  pub escapes-none : length l ≤ i → escapes (drop i l) ≡ 0
-  unfolding escapes
-  escapes-none h = rw (drop-of-length-le l h)
-
 -- Whether an escape byte stands among bytes: among the first i, which is found, or from i on.
 some-more : (t : Bool) (n : ℕ) → ltb 0 (cond t 1 0 + n) ≡ (t || ltb 0 n)
 some-more true n = lt-ltb 0 (1 + n) (omega arith)
@@ -105,28 +95,56 @@ module _ (l : List ℕ) (i : ℕ) (found : Bool) where
   pub escape-all : length l ≤ i → (found || ltb 0 (escapes (drop i l))) ≡ ltb 0 (escapes l) → found ≡ ltb 0 (escapes l)
   escape-all h inv = sym (or-false found) ∙ (rw (escapes-none l i h) at inv)
 
--- One byte more after the first i of a list.
-pub put-next : (l : List ℕ) {out left : List ℕ} {i : ℕ} → i < length l → length l ≤ length out → Put (take i l) out left i
-    → Put (take (i + 1) l) out (set left i (getD l i 0)) (i + 1)
-put-next l {out} {left} {i} h room p =
-    let b = getD l i 0 in
-    let e : take (i + 1) l ≡ take i l ++ (b ∷ []) = rw (add-one, take-suc l i 0 h) in
-    let n : length (take i l) ≡ i = sym (p .count) in
-    let m : length (take (i + 1) l) ≡ suc i = rw (e, length-append, n) (omega arith) in
-    let first : left ≡ take i l ++ (getD out i 0 ∷ drop (suc i) out) = p .bytes ∙ rw (n, drop-cons out i 0 (omega arith)) in
-    let whole : over (take (i + 1) l) out ≡ take i l ++ (b ∷ drop (suc i) out) = rw (m, e, append-assoc) in
-    record {
-      count = rw m (omega arith);
-      bytes = ap (λ (x : List ℕ). set x i b) first ∙ set-at (take i l) _ _ b i n ∙ sym whole;
-      room = omega arith;
-    }
-
--- What the writer promises of a write and of a refusal.
+-- What a writer promises of a write and of a refusal, told by the length.
 module _ {w out : List ℕ} where
-  pub done : {left : List ℕ} {n : ℕ} → Put w out left n → Encoded w out (Done n) left
-  done p =
-      let e = le-ltb (length out) (length w) (omega (arith, p .count, p .room)) in
-      record { answer = rw e; written = rw e (p .count); bytes = rw e (p .bytes) }
+  pub length-done : {left : List ℕ} {n : ℕ} → Put w out left n → Length-done w out n left
+  length-done p = let e = le-ltb (length out) (length w) (omega (arith, p .count, p .room)) in record { length-is = rw e (p .count); bytes-are = rw e (p .bytes) }
 
-  pub no-room : length out < length w → Encoded w out NoRoom out
-  no-room h = let e = lt-ltb (length out) (length w) h in record { answer = rw e; written = rw e; bytes = rw e }
+  pub no-length : length out < length w → Length-done w out 0 out
+  no-length h = let e = lt-ltb (length out) (length w) h in record { length-is = rw e; bytes-are = rw e }
+
+-- What the length tells: of an encoding that is not empty whether it was written; an empty one always is.
+module _ {w out left : List ℕ} {n : ℕ} (d : Length-done w out n left) where
+  pub told-done : 0 < n → Encoded w out (Done n) left
+  told-done h = go (ltb (length out) (length w)) refl
+    where
+      go : (t : Bool) → ltb (length out) (length w) ≡ t → Encoded w out (Done n) left
+      go true p = absurd (omega (arith, h, rw p at (d .length-is)))
+      go false p = record { answer = rw p; written = rw p (rw p at (d .length-is)); bytes = rw p (rw p at (d .bytes-are)) }
+
+  pub told-none : 0 < length w → n ≡ 0 → Encoded w out NoRoom left
+  told-none some h = go (ltb (length out) (length w)) refl
+    where
+      go : (t : Bool) → ltb (length out) (length w) ≡ t → Encoded w out NoRoom left
+      go false p = absurd (omega (arith, some, h, rw p at (d .length-is)))
+      go true p = record { answer = rw p; written = rw p; bytes = rw p (rw p at (d .bytes-are)) }
+
+  told-empty : length w ≡ 0 → Encoded w out (Done 0) left
+  told-empty none =
+      let p = le-ltb (length out) (length w) (omega arith) in
+      record { answer = rw p; written = rw p (sym none); bytes = rw p (rw p at (d .bytes-are)) }
+
+-- A heading and fields that fit into no room have no raw byte.
+none-raw : (flag : Bool) (h l : List ℕ) → leb (length (coded false (h ++ l))) 0 ≡ true → length (h ++ coded flag l) ≡ 0
+none-raw flag h l e =
+    let n = rw (plain-parallel (h ++ l), length-append) at (leb-true (length (coded false (h ++ l))) 0 e) in
+    rw length-append (omega (arith, coded-most flag l))
+
+some-raw : (flag : Bool) (h l : List ℕ) → leb (length (coded false (h ++ l))) 0 ≡ false → 0 < length (h ++ coded flag l)
+some-raw flag h l e =
+    let n = rw (plain-parallel (h ++ l), length-append) at (leb-false (length (coded false (h ++ l))) 0 e) in
+    rw length-append (omega (arith, coded-length flag l))
+
+-- What the length tells of three fields, which are four of which the last is empty.
+module _ (flag : Bool) (h a b c : List ℕ) {out left : List ℕ} {n : ℕ} (d : Length-done (partsRaw flag h a b c []) out n left) where
+  three : Length-done (fieldsRaw flag h a b c) out n left
+  three = rw append-nil at d
+
+  pub wrote-three : 0 < n → Fields-done flag h a b c out (Done n) left
+  wrote-three some = told-done three some
+
+  pub wrote-none : {none : Bool} → none ≡ leb (length (coded false (h ++ (a ++ (b ++ c))))) 0 → none ≡ true → Fields-done flag h a b c out (Done 0) left
+  wrote-none e is = told-empty three (none-raw flag h (a ++ (b ++ c)) (sym e ∙ is))
+
+  pub refused-three : {none : Bool} → n ≤ 0 → none ≡ leb (length (coded false (h ++ (a ++ (b ++ c))))) 0 → none ≡ false → Fields-done flag h a b c out NoRoom left
+  refused-three z e is = told-none three (some-raw flag h (a ++ (b ++ c)) (sym e ∙ is)) (omega arith)

@@ -1,18 +1,18 @@
 -- What data bytes leave of the room, one list after another.
-use Prim.Native.Nat.{ℕ, _+_, _-_, _≤_, _<_}
-use native.Mathlib.Nat.{add-assoc}
+use Prim.Native.Nat.{ℕ, _+_, _-_, _/_, _≤_, _<_}
+use native.Mathlib.Nat.{add-assoc, div-add-mod'}
 use native.Mathlib.Omega.{arith}
 use mathlib.Core.Path.{_≡_, refl, sym, _∙_}
 use mathlib.Core.Bool.{Bool, true, false, cond}
-use mathlib.Core.List.{List}
-use borrow.Author.Tests.{lt-ltb, le-ltb, lt-leb, le-leb, ltb-true, ltb-false}
+use mathlib.Core.List.{List, _++_}
+use borrow.Author.Tests.{lt-ltb, le-ltb, lt-leb, le-leb, ltb-true, ltb-false, leb-true, leb-false}
 use lib.Dec.{leb, ltb}
 use lib.ListN.{length, length-append}
 use Rattle.fields.specs.declared.Left.{Left}
 use Rattle.fields.specs.declared.Left.the-variants.{Room, Short}
-use Rattle.fields.specs.Carriers.{coded, addedOn, fieldsRaw}
+use Rattle.fields.specs.Carriers.{coded, addedOn}
 use Rattle.fields.specs.Room.{leftOf}
-use Rattle.fields.proofs.Laws.{plain-parallel, coded-length, pair-length}
+use Rattle.fields.proofs.Laws.{plain-parallel, coded-length, coded-most, pair-length}
 
 -- Data bytes take their length and the bytes that the carrier adds.
 module _ (flag : Bool) (l : List ℕ) {room n : ℕ} where
@@ -65,16 +65,38 @@ fits-none n room e = go (ltb room n) refl e
     go true p q = sym (lt-leb n room (ltb-true room n p))
     go false p q = let z : _≡_ {A = ℕ} 0 1 = cc in absurd (omega arith)
 
--- The whole fits where its parts, one after another, leave some of the room.
-module _ (flag : Bool) (h a b c : List ℕ) (room : ℕ) {p q r s : Left} where
-  whole-left : p ≡ leftOf (length (coded false h)) (Room room) → q ≡ leftOf (length (coded flag a)) p → r ≡ leftOf (length (coded flag b)) q
-      → s ≡ leftOf (length (coded flag c)) r → s ≡ leftOf (length (fieldsRaw flag h a b c)) (Room room)
-  whole-left w x y z = let e = plain-parallel h in z ∙ simp (y, x, w, e, left-left, length-append, pair-length, add-assoc)
+-- Four fields fit where they, one after another, leave some of the room.
+module _ (flag : Bool) (a b c d : List ℕ) (room : ℕ) {p q r s : Left} where
+  fields-left : p ≡ leftOf (length (coded flag a)) (Room room) → q ≡ leftOf (length (coded flag b)) p → r ≡ leftOf (length (coded flag c)) q
+      → s ≡ leftOf (length (coded flag d)) r → s ≡ leftOf (length (coded flag (a ++ (b ++ (c ++ d))))) (Room room)
+  fields-left w x y z = z ∙ simp (y, x, w, left-left, pair-length, add-assoc)
 
-  pub fits : {left : ℕ} → p ≡ leftOf (length (coded false h)) (Room room) → q ≡ leftOf (length (coded flag a)) p → r ≡ leftOf (length (coded flag b)) q
-      → s ≡ leftOf (length (coded flag c)) r → s ≡ Room left → true ≡ leb (length (fieldsRaw flag h a b c)) room
-  fits w x y z e = fits-left _ room _ (sym e ∙ whole-left w x y z)
+  pub fits : {left : ℕ} → p ≡ leftOf (length (coded flag a)) (Room room) → q ≡ leftOf (length (coded flag b)) p → r ≡ leftOf (length (coded flag c)) q
+      → s ≡ leftOf (length (coded flag d)) r → s ≡ Room left → true ≡ leb (length (coded flag (a ++ (b ++ (c ++ d))))) room
+  fits w x y z e = fits-left _ room _ (sym e ∙ fields-left w x y z)
 
-  pub too-much : p ≡ leftOf (length (coded false h)) (Room room) → q ≡ leftOf (length (coded flag a)) p → r ≡ leftOf (length (coded flag b)) q
-      → s ≡ leftOf (length (coded flag c)) r → s ≡ Short → false ≡ leb (length (fieldsRaw flag h a b c)) room
-  too-much w x y z e = fits-none _ room (sym e ∙ whole-left w x y z)
+  pub too-much : p ≡ leftOf (length (coded flag a)) (Room room) → q ≡ leftOf (length (coded flag b)) p → r ≡ leftOf (length (coded flag c)) q
+      → s ≡ leftOf (length (coded flag d)) r → s ≡ Short → false ≡ leb (length (coded flag (a ++ (b ++ (c ++ d))))) room
+  too-much w x y z e = fits-none _ room (sym e ∙ fields-left w x y z)
+
+whole : (flag : Bool) (h l : List ℕ) → length (h ++ coded flag l) ≡ length h + length (coded flag l)
+whole flag h l = rw length-append
+
+-- The whole fits where the heading does and the data bytes fit into what it leaves; they do where that has room for all of them doubled.
+module _ (flag : Bool) (h l : List ℕ) {room : ℕ} where
+  pub no-heading : room < length h → false ≡ leb (length (h ++ coded flag l)) room
+  no-heading less = sym (lt-leb (length (h ++ coded flag l)) room (omega (arith, whole flag h l)))
+
+  pub doubled : {half : Bool} → length h ≤ room → half ≡ leb (length (coded false l)) ((room - length h) / 2) → half ≡ true
+      → true ≡ leb (length (h ++ coded flag l)) room
+  doubled le e is =
+      let a = leb-true (length l) ((room - length h) / 2) (rw (plain-parallel l) at (sym e ∙ is)) in
+      let d = div-add-mod' (room - length h) 2 in
+      sym (le-leb (length (h ++ coded flag l)) room (omega (arith, whole flag h l, a, d, coded-most flag l)))
+
+  pub behind : {fit : Bool} → length h ≤ room → fit ≡ leb (length (coded flag l)) (room - length h) → fit ≡ leb (length (h ++ coded flag l)) room
+  behind {fit} le e = go fit (sym e)
+    where
+      go : (t : Bool) → leb (length (coded flag l)) (room - length h) ≡ t → t ≡ leb (length (h ++ coded flag l)) room
+      go true p = sym (le-leb (length (h ++ coded flag l)) room (omega (arith, whole flag h l, leb-true (length (coded flag l)) (room - length h) p)))
+      go false p = sym (lt-leb (length (h ++ coded flag l)) room (omega (arith, whole flag h l, leb-false (length (coded flag l)) (room - length h) p)))

@@ -1,12 +1,14 @@
--- Where a writer's answer is 0, its checks were passed and the bytes that it counts are the encoding.
+-- Where a writer's answer is 0, its checks were passed and the bytes that it counts are the encoding; the check of a string that is not there.
 use Prim.Native.Nat.{ℕ}
 use mathlib.Core.Path.{_≡_, refl, sym, ap, _∙_}
-use mathlib.Core.Bool.{Bool, true, false, cond, not}
+use mathlib.Core.Bool.{Bool, true, false, cond, not, _&&_}
 use native.Mathlib.Omega.{arith}
-use mathlib.Core.List.{List, _++_}
+use mathlib.Core.List.{List, [], _∷_, _++_}
+use borrow.Author.Tests.{ne-eqb}
 use lib.Dec.{eqb}
 use lib.ListN.{length, take, drop}
 use lib.Seq.{take-at}
+use Rattle.serial_rules.specs.Call.{hasReturn}
 use Rattle.fields.specs.declared.Written.{Written}
 use Rattle.fields.specs.Promise.{number, count, Writer-done}
 
@@ -25,3 +27,9 @@ pub checks : (long ok room : Bool) → _≡_ {A = ℕ} (cond long 6 (cond (not o
 checks true ok room e = absurd (omega (arith, e))
 checks false true room e = (refl, refl)
 checks false false room e = absurd (omega (arith, e))
+
+-- no string is one without a return
+pub no-string : (t : List ℕ) → eqb (length t) 0 ≡ (eqb (length t) 0 && not (hasReturn t))
+unfolding hasReturn
+no-string [] = refl
+no-string (x ∷ t) = rw (ne-eqb (length (x ∷ t)) 0 (λ h. omega (arith, h))) refl

@@ -2,8 +2,7 @@
 use Prim.Native.Nat.{ℕ}
 use mathlib.Core.Bool.{Bool, true, false, cond}
 use mathlib.Core.List.{List, _++_}
-use lib.Dec.{eqb}
-use Rattle.serial_rules.specs.Escape.{escape, escapes}
+use Rattle.serial_rules.specs.Escape.{escapes}
 use Rattle.serial_rules.specs.Call.{Carrier, serial, parallel, carried}
 
 abbrev pub carrierOf : Bool → Carrier
@@ -18,9 +17,9 @@ coded flag l = carried (carrierOf flag) l
 unfoldable pub addedOn : Bool → List ℕ → ℕ
 addedOn flag l = cond flag (escapes l) 0
 
-abbrev pub isEscape : ℕ → ℕ
-isEscape b = cond (eqb b escape) 1 0
+-- the raw bytes of a heading and four fields, and of a heading and three
+abbrev pub partsRaw : Bool → List ℕ → List ℕ → List ℕ → List ℕ → List ℕ → List ℕ
+partsRaw flag h a b c d = h ++ coded flag (a ++ (b ++ (c ++ d)))
 
--- the raw bytes of a heading and three fields
 abbrev pub fieldsRaw : Bool → List ℕ → List ℕ → List ℕ → List ℕ → List ℕ
 fieldsRaw flag h a b c = h ++ coded flag (a ++ (b ++ c))

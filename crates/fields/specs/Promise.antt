@@ -36,3 +36,8 @@ Encoded encoding out r left = Writer-done (cond (ltb (length out) (length encodi
 -- Of a heading and three fields.
 abbrev pub Fields-done : Bool → List ℕ → List ℕ → List ℕ → List ℕ → List ℕ → Written → List ℕ → Type 0
 Fields-done serial h a b c out r left = Encoded (fieldsRaw serial h a b c) out r left
+
+-- The same by the length alone, 0 where the whole does not fit.
+pub record Length-done (encoding out : List ℕ) (n : ℕ) (left : List ℕ) : Type 0 where
+  pub length-is : n ≡ cond (ltb (length out) (length encoding)) 0 (length encoding)
+  pub bytes-are : left ≡ cond (ltb (length out) (length encoding)) out (encoding ++ drop (length encoding) out)

@@ -1,4 +1,4 @@
-// The writer that every encoding is made with: a heading, then three fields of data bytes.
+// The writer that every encoding is made with: a heading, then up to four fields of data bytes.
 ghost use Prim.Native.Nat.{_≤_};
 ghost use mathlib.Core.Path.{_≡_};
 ghost use mathlib.Core.List.{_++_};
@@ -7,8 +7,8 @@ ghost use lib.Dec.{eqb, leb, ltb};
 ghost use lib.ListN.{length};
 ghost use Rattle.serial_rules.specs.Escape.{escape, escaped, escapes};
 ghost use Rattle.escape.specs.Put.{Put};
-ghost use Rattle.fields.specs.Carriers.{coded, addedOn, isEscape, fieldsRaw};
-ghost use Rattle.fields.specs.Promise.{Fields-done};
+ghost use Rattle.fields.specs.Carriers.{coded, addedOn, partsRaw};
+ghost use Rattle.fields.specs.Promise.{Fields-done, Length-done};
 ghost use Rattle.fields.specs.Room.{leftOf};
 
 // The answers of a writer: the length of the encoding written; a string over 255 bytes; a field that breaks its rule; too little room.
@@ -37,27 +37,73 @@ pub fn write_fields(
 ) -> Written
     ensures { λ r. ⌜ Fields-done serial (now (heading .entry)) (now (first .entry)) (now (second .entry)) (now (third .entry)) (now (out .entry)) r (now (out .exit)) ⌝ }
 {
-    if fields_fit(serial, heading, first, second, third, out.len()) {
-        return Written::Done(put_fields(serial, heading, first, second, third, out));
+    let n = write_length(serial, heading, first, second, third, &[], out);
+    if 0 < n {
+        return Written::Done(n);
+    }
+    let empty = fields_fit(false, heading, first, second, third, 0);
+    if empty {
+        return Written::Done(0);
     }
     Written::NoRoom
 }
 
-// Whether the whole fits into `room` bytes. What is left of the room is counted down, so that no sum overflows.
-fn fields_fit(
+// The same for four fields, answered by the length alone, 0 where the whole does not fit: a number comes back in a register, an enum
+// through memory (docs/DECISIONS.md, 'Speed').
+pub fn write_length(
     serial: bool,
     heading: &[u8],
     first: &[u8],
     second: &[u8],
     third: &[u8],
+    fourth: &[u8],
+    out: &mut [u8],
+) -> usize
+    ensures { λ r. ⌜ Length-done (partsRaw serial (now (heading .entry)) (now (first .entry)) (now (second .entry)) (now (third .entry)) (now (fourth .entry))) (now (out .entry)) r (now (out .exit)) ⌝ }
+{
+    if parts_fit(serial, heading, first, second, third, fourth, out.len()) {
+        return put_parts(serial, heading, first, second, third, fourth, out);
+    }
+    0
+}
+
+// Whether the whole fits into `room` bytes. The escape bytes are counted only where all fields doubled would not fit.
+fn parts_fit(
+    serial: bool,
+    heading: &[u8],
+    first: &[u8],
+    second: &[u8],
+    third: &[u8],
+    fourth: &[u8],
     room: usize,
 ) -> bool
-    ensures { λ r. ⌜ r ≡ leb (length (fieldsRaw serial (now (heading .entry)) (now (first .entry)) (now (second .entry)) (now (third .entry)))) room ⌝ }
+    ensures { λ r. ⌜ r ≡ leb (length (partsRaw serial (now (heading .entry)) (now (first .entry)) (now (second .entry)) (now (third .entry)) (now (fourth .entry)))) room ⌝ }
 {
-    let for_fields = left_after(false, heading, Left::Room(room));
-    let for_two = left_after(serial, first, for_fields);
-    let for_third = left_after(serial, second, for_two);
-    match left_after(serial, third, for_third) {
+    if room < heading.len() {
+        return false;
+    }
+    let spare = room - heading.len();
+    if fields_fit(false, first, second, third, fourth, spare / 2) {
+        return true;
+    }
+    fields_fit(serial, first, second, third, fourth, spare)
+}
+
+// Whether four fields fit into `room` bytes. What is left of the room is counted down, so that no sum overflows.
+fn fields_fit(
+    serial: bool,
+    first: &[u8],
+    second: &[u8],
+    third: &[u8],
+    fourth: &[u8],
+    room: usize,
+) -> bool
+    ensures { λ r. ⌜ r ≡ leb (length (coded serial (now (first .entry) ++ (now (second .entry) ++ (now (third .entry) ++ now (fourth .entry)))))) room ⌝ }
+{
+    let for_three = left_after(serial, first, Left::Room(room));
+    let for_two = left_after(serial, second, for_three);
+    let for_fourth = left_after(serial, third, for_two);
+    match left_after(serial, fourth, for_fourth) {
         Left::Room(_) => true,
         Left::Short => false,
     }
@@ -85,20 +131,10 @@ fn left_after(serial: bool, bytes: &[u8], left: Left) -> Left
 fn added(serial: bool, bytes: &[u8]) -> usize
     ensures { λ r. ⌜ r ≡ addedOn serial (now (bytes .entry)) ⌝ }
 {
-    if doubles(serial, bytes) {
-        return count_escapes(bytes);
+    if serial {
+        return escape::count_escapes(bytes);
     }
     0
-}
-
-// Whether the carrier adds bytes to data bytes.
-fn doubles(serial: bool, bytes: &[u8]) -> bool
-    ensures { λ r. ⌜ r ≡ ltb 0 (addedOn serial (now (bytes .entry))) ⌝ }
-{
-    if serial {
-        return has_escape(bytes);
-    }
-    false
 }
 
 // Whether one of the bytes is an escape byte. The loop has no other way out, so that it tests many bytes at once.
@@ -124,40 +160,37 @@ fn or_escape(found: bool, byte: u8) -> bool
     }
 }
 
-// How many of the bytes are escape bytes.
-fn count_escapes(bytes: &[u8]) -> usize
-    ensures { λ r. ⌜ r ≡ escapes (now (bytes .entry)) ⌝ }
-{
-    let mut n: usize = 0;
-    let mut i: usize = 0;
-    while i < bytes.len() {
-        n += is_escape(bytes[i]);
-        i += 1;
-    }
-    n
-}
-
-// One for an escape byte, else none.
-fn is_escape(byte: u8) -> usize
-    ensures { λ r. ⌜ (r ≡ isEscape byte) × (r ≤ 1) ⌝ }
-{
-    if byte == escape::Piece::ESCAPE { 1 } else { 0 }
-}
-
 // Writes the whole, for which there is room; returns how many bytes. Each field goes into the tail that those before it leave.
-fn put_fields(
+fn put_parts(
     serial: bool,
     heading: &[u8],
     first: &[u8],
     second: &[u8],
     third: &[u8],
+    fourth: &[u8],
     out: &mut [u8],
 ) -> usize
-    requires { ⌜ length (fieldsRaw serial (now heading) (now first) (now second) (now third)) ≤ length (now out) ⌝ }
-    ensures { λ r. ⌜ Put (fieldsRaw serial (now (heading .entry)) (now (first .entry)) (now (second .entry)) (now (third .entry))) (now (out .entry)) (now (out .exit)) r ⌝ }
+    requires { ⌜ length (partsRaw serial (now heading) (now first) (now second) (now third) (now fourth)) ≤ length (now out) ⌝ }
+    ensures { λ r. ⌜ Put (partsRaw serial (now (heading .entry)) (now (first .entry)) (now (second .entry)) (now (third .entry)) (now (fourth .entry))) (now (out .entry)) (now (out .exit)) r ⌝ }
 {
     let at = put_plain(heading, out);
-    let n = put_three(serial, first, second, third, &mut out[at..]);
+    let n = put_four(serial, first, second, third, fourth, &mut out[at..]);
+    at + n
+}
+
+fn put_four(
+    serial: bool,
+    first: &[u8],
+    second: &[u8],
+    third: &[u8],
+    fourth: &[u8],
+    out: &mut [u8],
+) -> usize
+    requires { ⌜ length (coded serial (now first ++ (now second ++ (now third ++ now fourth)))) ≤ length (now out) ⌝ }
+    ensures { λ r. ⌜ Put (coded serial (now (first .entry) ++ (now (second .entry) ++ (now (third .entry) ++ now (fourth .entry))))) (now (out .entry)) (now (out .exit)) r ⌝ }
+{
+    let at = put_data(serial, first, out);
+    let n = put_three(serial, second, third, fourth, &mut out[at..]);
     at + n
 }
 
@@ -179,12 +212,15 @@ fn put_two(serial: bool, first: &[u8], second: &[u8], out: &mut [u8]) -> usize
     at + n
 }
 
-// Writes data bytes: escaped where the carrier adds some, else as they are.
+// Writes data bytes as they are, and on the serial lead, where there is an escape byte, with each of these doubled.
 fn put_data(serial: bool, bytes: &[u8], out: &mut [u8]) -> usize
     requires { ⌜ length (coded serial (now bytes)) ≤ length (now out) ⌝ }
     ensures { λ r. ⌜ Put (coded serial (now (bytes .entry))) (now (out .entry)) (now (out .exit)) r ⌝ }
 {
-    if doubles(serial, bytes) {
+    if !serial {
+        return put_plain(bytes, out);
+    }
+    if has_escape(bytes) {
         return put_escaped(bytes, out);
     }
     put_plain(bytes, out)

@@ -2,20 +2,14 @@
 use Prim.Native.Nat.{ℕ, _+_, _-_, _<_}
 use native.Mathlib.Omega.{arith}
 use mathlib.Core.Path.{_≡_, refl}
-use mathlib.Core.Bool.{Bool, true, false, cond, not, _&&_}
-use borrow.Author.Tests.{lt-ltb, ne-eqb, eqb-true, eqb-false, not-true}
+use mathlib.Core.Bool.{Bool, true, false, cond}
+use borrow.Author.Tests.{lt-ltb, ne-eqb, eqb-false}
 use lib.Dec.{eqb}
-use Rattle.serial_rules.specs.Escape.{escape}
-use Rattle.serial_rules.specs.Call.{return}
 use Rattle.serial_rules.specs.Body.{more}
 use Rattle.serial_rules.specs.Reply.{Shape, fixed, line, text, shapeTurn, longest}
-use Rattle.serial_rules.proofs.Trip.{and-both}
 use Rattle.turns.specs.Plain.{plain}
+use Rattle.turns.proofs.Plain.{no-return}
 use Rattle.kind.specs.Ahead.{aheadOf}
-
--- a plain byte is no return
-no-return : (b : ℕ) → plain b ≡ true → eqb b return ≡ false
-no-return b h = not-true (eqb b return) (and-both (not (eqb b escape)) (not (eqb b return)) h .1)
 
 -- in the middle of a line its first byte has come
 line-begun : (n i : ℕ) → i < aheadOf line n → (n ≡ 0 → ⊥) × (n + i < 256)

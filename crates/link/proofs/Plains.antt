@@ -4,20 +4,17 @@ use native.Mathlib.Nat.{add-zero}
 use native.Mathlib.Numerals.{add-one}
 use native.Mathlib.Omega.{arith}
 use mathlib.Core.Path.{_≡_, refl, sym, ap, subst, _∙_}
-use mathlib.Core.Bool.{Bool, true, false, cond, not, _&&_}
+use mathlib.Core.Bool.{Bool, true, false}
 use mathlib.Core.List.{List, [], _∷_, _++_}
-use lib.Dec.{eqb, ltb}
 use lib.ListN.{length, take, drop, set, replicate, length-drop, length-set}
 use lib.Seq.{length-take-le, sets}
-use borrow.Author.Tests.{lt-ltb, not-true}
-use Rattle.serial_rules.specs.Escape.{escape, dataByte, pieceOf}
-use Rattle.serial_rules.specs.Call.{return}
+use borrow.Author.Tests.{lt-ltb}
+use Rattle.serial_rules.specs.Escape.{dataByte, pieceOf}
 use Rattle.serial_rules.specs.Body.{Turn, more, done, refused}
 use Rattle.serial_rules.specs.Reply.{Kind, shapeOf, shapeTurn, longest}
 use Rattle.serial_rules.specs.Link as rules
-use Rattle.serial_rules.proofs.Trip.{and-both}
 use Rattle.turns.specs.Plain.{plain, Plains, none, one, Plain-done}
-use Rattle.turns.proofs.Plain.{done-plains, done-most, part-sets}
+use Rattle.turns.proofs.Plain.{no-escape, done-plains, done-most, part-sets}
 use Rattle.kind.specs.Kinds.{kindFor}
 use Rattle.kind.specs.Ahead.{aheadOf}
 use Rattle.kind.specs.declared.CallKind.{CallKind}
@@ -36,7 +33,7 @@ use Rattle.link.proofs.Steps.{usable-live, usable-got, usable-held, rep
 
 -- a plain byte is data in itself
 data-in-itself : (b : ℕ) → plain b ≡ true → pieceOf false b ≡ dataByte b
-data-in-itself b h = rw (not-true (eqb b escape) (and-both (not (eqb b escape)) (not (eqb b return)) h .0))
+data-in-itself b h = rw (no-escape b h)
 
 -- a link in the middle of a reply
 abbrev mid : CallKind → ℕ → Link

@@ -17,6 +17,7 @@ use Rattle.serial_rules.specs.Body.{more, done, refused}
 use Rattle.serial_rules.specs.Fields.{at}
 use Rattle.serial_rules.specs.Reply.{shapeOf, shapeTurn, longest}
 use Rattle.serial_rules.specs.Link as rules
+use Rattle.serial_rules.proofs.Trip.{and-both}
 use Rattle.kind.specs.Kinds.{kindFor}
 use Rattle.kind.specs.declared.CallKind.{CallKind}
 use Rattle.link.specs.declared.Wait.{Wait}
@@ -33,10 +34,6 @@ use Rattle.link.specs.View.{waitFor, actionFor, doingFor, replyRoom, own
 use Rattle.link.specs.Parts.{refusedFrom, pausedFrom, goingFrom, restingWith, frameOf, doingOf, Gives, Met, Mark-done, Opening-done, Data-done, Reply-done, Own-done, finishAt, Finished-done, failureFor}
 use Rattle.link.proofs.Answer as answers
 use Rattle.link.proofs.Shapes.{more-fits, fixed-done, text-done}
-
-and-both : (a b : Bool) → (a && b) ≡ true → (a ≡ true) × (b ≡ true)
-and-both true b e = (refl, e)
-and-both false b e = let z : _≡_ {A = ℕ} 0 1 = cc in absurd (omega arith)
 
 -- a usable record, part by part
 pub usable-live : (l : Link) → usableOf l ≡ true → l .stopped ≡ false

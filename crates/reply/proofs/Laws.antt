@@ -1,15 +1,14 @@
 -- The fields of a reply in its bytes, and a writer's answers by their tests.
 use Prim.Native.Nat.{ℕ, _+_, _-_, _≤_, _<_}
 use mathlib.Core.Path.{_≡_, refl, sym, ap, subst, _∙_}
-use mathlib.Core.Bool.{Bool, true, false, not, _&&_}
+use mathlib.Core.Bool.{Bool, true, false, not}
 use mathlib.Core.List.{List, [], _∷_}
 use native.Mathlib.Omega.{arith}
-use lib.Dec.{eqb, ltb}
-use lib.ListN.{length, take, drop, List·getD-eq-default}
+use lib.Dec.{ltb}
+use lib.ListN.{length, take, drop, length-take, List·getD-eq-default}
 use lib.Seq.{take-all, take-length}
-use borrow.Author.Tests.{ne-eqb, ltb-true, ltb-false}
+use borrow.Author.Tests.{ltb-true, ltb-false, not-true, not-false}
 use Rattle.serial_rules.specs.Escape.{escaped}
-use Rattle.serial_rules.specs.Call.{hasReturn}
 use Rattle.serial_rules.specs.Fields.{at}
 use Rattle.serial_rules.specs.Reply as rules
 use Rattle.fields.specs.Promise.{Writer-done}
@@ -20,8 +19,9 @@ use Rattle.kind.specs.declared.CallKind.{CallKind}
 use Rattle.reply.specs.declared.Reply.{Reply}
 use Rattle.reply.specs.declared.Reply.the-variants.{ReadLine, EscapedLine}
 use Rattle.reply.specs.declared.Given.{Given}
+use Rattle.reply.specs.declared.Parts.{Parts}
 use Rattle.reply.specs.Promise.{replyFor, Given-done}
-use Rattle.reply.specs.Parts.{Bytes-done, numbersAt, blockAt}
+use Rattle.reply.specs.Parts.{Bytes-done, partsBytes, partsOk, Parts-done, numbersAt, blockAt}
 
 -- a reply of numbers alone
 pub numbers-given : (s : List ℕ) (r : Reply) (g : rules.Reply) → replyFor r ≡ g → Given-done s (rules.given g [] []) (numbersAt r)
@@ -66,30 +66,36 @@ pub typed-given : (s : List ℕ) → rules.flag (at s 0) ≡ false → 2 ≤ len
 unfolding rules.replyRead
 typed-given s h m = rw h (record { reply-is = refl; block-within = omega arith; text-within = omega arith })
 
--- The writer: refused, or its fields are the bytes of the reply.
+-- Parts are a reply's where they are those of the reply that is known, value by value.
+pub filled : {given known : Reply} {r p : Parts} → given ≡ known → r ≡ p → p .form ≡ rules.formIn (replyFor known) → p .line ≡ rules.hasLine (replyFor known)
+    → ((b t : List ℕ) → partsBytes p b t ≡ rules.replyBytes (replyFor known) b t) → p .before ≤ length (p .head) → p .behind ≤ length (p .tail)
+    → Parts-done (replyFor given) r
+filled is e form line bytes before behind =
+    rw (is, e) (record { form-is = form; line-is = line; bytes-are = bytes; before-fits = before; behind-fits = behind })
+
+-- the first n of a list are n
+pub taken : (n : ℕ) (l : List ℕ) → n ≤ length l → n ≡ length (take n l)
+taken n l h = simp length-take (omega arith)
+
+-- The writer: refused, or the bytes of its parts are those of the reply.
 pub too-long : (k : rules.Kind) (r : rules.Reply) (b t out : List ℕ) → ltb 255 (length t) ≡ true
     → Writer-done (rules.replyNumber k r b t (length out)) (escaped (rules.replyBytes r b t)) out TooLong out
 unfolding rules.replyNumber
 too-long k r b t out h = simp h (record { answer = refl; written = refl; bytes = refl })
 
-pub bad-field : (k : rules.Kind) (r : rules.Reply) (b t out : List ℕ) → ltb 255 (length t) ≡ false → rules.replyOk k r b t ≡ false
-    → Writer-done (rules.replyNumber k r b t (length out)) (escaped (rules.replyBytes r b t)) out BadField out
-unfolding rules.replyNumber
-bad-field k r b t out h o = simp (h, o) (record { answer = refl; written = refl; bytes = refl })
+module _ (k : rules.Kind) (r : rules.Reply) (b t out : List ℕ) {p : Parts} {ok : Bool} (short : ltb 255 (length t) ≡ false) (d : Parts-done r p) (e : ok ≡ partsOk k p b t) where
+  judged : ok ≡ rules.replyOk k r b t
+  unfolding partsOk rules.replyOk
+  judged = rw (d .form-is, d .line-is) at e
 
-pub wrote : (k : rules.Kind) (r q : Reply) (b t l out left : List ℕ) (w : Written) → ltb 255 (length t) ≡ false → rules.replyOk k (replyFor r) b t ≡ true
-    → r ≡ q → Bytes-done l out w left → l ≡ rules.replyBytes (replyFor q) b t
-    → Writer-done (rules.replyNumber k (replyFor r) b t (length out)) (escaped (rules.replyBytes (replyFor r) b t)) out w left
-unfolding rules.replyNumber
-wrote k r q b t l out left w h o p d e =
-    let f : l ≡ rules.replyBytes (replyFor r) b t = e ∙ ap (λ (u : Reply). rules.replyBytes (replyFor u) b t) (sym p) in
-    simp (h, o, ← f) d
+  pub bad-field : not ok ≡ true → Writer-done (rules.replyNumber k r b t (length out)) (escaped (rules.replyBytes r b t)) out BadField out
+  unfolding rules.replyNumber
+  bad-field h = let o = sym judged ∙ not-true ok h in simp (short, o) (record { answer = refl; written = refl; bytes = refl })
 
--- no string is a clean one
-pub no-string : (t : List ℕ) → eqb (length t) 0 ≡ (eqb (length t) 0 && not (hasReturn t))
-unfolding hasReturn
-no-string [] = refl
-no-string (x ∷ t) = rw (ne-eqb (length (x ∷ t)) 0 (λ h. omega (arith, h))) refl
+  pub wrote : {left : List ℕ} {w : Written} → not ok ≡ false → Bytes-done (partsBytes p b t) out w left
+      → Writer-done (rules.replyNumber k r b t (length out)) (escaped (rules.replyBytes r b t)) out w left
+  unfolding rules.replyNumber
+  wrote h w = let o = sym judged ∙ not-false ok h in let f = d .bytes-are b t in simp (short, o, ← f) w
 
 -- the kind of the call decides what is read
 pub by-kind : (k q : CallKind) (s : List ℕ) (g : rules.Given) (r : Given) → k ≡ q → rules.replyRead (kindFor q) s ≡ g → Given-done s g r → Given-done s (rules.replyRead (kindFor k) s) r

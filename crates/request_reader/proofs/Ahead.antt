@@ -1,24 +1,19 @@
 -- Plain bytes in the middle of a field need more: one law for each kind of field.
-use Prim.Native.Nat.{ℕ, zero, suc, _+_, _-_, _≤_, _<_}
+use Prim.Native.Nat.{ℕ, _+_, _-_, _≤_, _<_}
 use native.Mathlib.Omega.{arith}
-use mathlib.Core.Path.{_≡_, refl, ap, _∙_}
-use mathlib.Core.Bool.{Bool, true, false, cond, not, _&&_}
+use mathlib.Core.Path.{_≡_, refl, _∙_}
+use mathlib.Core.Bool.{true, false}
 use mathlib.Core.List.{List, [], _∷_, _++_, append-assoc, append-nil}
-use lib.Dec.{eqb, ltb}
-use lib.ListN.{length, getD, drop, length-append, length-drop, List·getD-append}
+use lib.Dec.{eqb}
+use lib.ListN.{length, getD, drop, length-append, List·getD-append}
 use lib.Seq.{drop-append-le, getD-append-seam}
-use borrow.Author.Tests.{lt-ltb, le-ltb, ne-eqb, not-true}
-use Rattle.serial_rules.specs.Escape.{escape}
-use Rattle.serial_rules.specs.Call.{return, stringLimit}
-use Rattle.serial_rules.specs.Body.{Turn, more, refused, stringTurn, fixedTurn, nameTurn, wordTurn, findTurn, fileTurn, ended, bodyTurn, longestBody}
+use borrow.Author.Tests.{lt-ltb, le-ltb, ne-eqb}
+use Rattle.serial_rules.specs.Call.{return}
+use Rattle.serial_rules.specs.Body.{more, stringTurn, fixedTurn, nameTurn, ended, bodyTurn, longestBody}
 use Rattle.turns.specs.Plain.{plain, Plains, none, one}
+use Rattle.turns.proofs.Plain.{no-return}
 use Rattle.request_reader.specs.Ahead.{Ahead-done}
-use Rattle.request_reader.proofs.Limits.{and-both}
 use Rattle.request_reader.proofs.Bytes.{word-rest, find-rest, ended-last}
-
--- a plain byte is no return
-no-return : (b : ℕ) → plain b ≡ true → eqb b return ≡ false
-no-return b h = not-true (eqb b return) (and-both (not (eqb b escape)) (not (eqb b return)) h .1)
 
 -- no byte at all
 pub ahead-none : (code : ℕ) (s : List ℕ) {n : ℕ} → n ≡ 0 → Ahead-done code s n

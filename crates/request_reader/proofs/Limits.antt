@@ -10,6 +10,7 @@ use lib.ListN.{length, getD, take, drop}
 use lib.Seq.{length-take-le, getD-take}
 use borrow.Author.Tests.{ltb-true, leb-true, eqb-false, not-true, le-leb, eq-eqb}
 use Rattle.serial_rules.specs.Call.{return, stringLimit, Carrier, serial, parallel, styleOk}
+use Rattle.serial_rules.proofs.Trip.{and-both}
 use Rattle.serial_rules.specs.Marks.{bit, isCode, styleOf, codeIn, startsRequest}
 use Rattle.serial_rules.specs.Reader.{starts}
 use Rattle.serial_rules.specs.Body.{Turn, more, done, refused, stringTurn, fixedTurn, checkedTurn, wordTurn, findTurn, nameTurn, ended, fileTurn, bodyTurn, longestBody}
@@ -108,10 +109,6 @@ longest-fits code =
     (at-most (eqb code 0x0E) (omega arith) (at-most (eqb code 0x10) (omega arith)
     (at-most (eqb code 0x12) (omega arith) (at-most (eqb code 0x14) (omega arith)
     (at-most (eqb code 0x16) (omega arith) (omega arith)))))))))))
-
-pub and-both : (a b : Bool) → (a && b) ≡ true → (a ≡ true) × (b ≡ true)
-and-both true b e = (refl, e)
-and-both false b e = let z : _≡_ {A = ℕ} 0 1 = cc in absurd (omega arith)
 
 -- The codes in order: an even number from 2 j on is 2 j, or from 2 (j + 1) on.
 from-code : (code j : ℕ) {a b : ℕ} → (code % 2 ≡ 1 → ⊥) → 2 * j ≤ code → 0 < a → (2 * (j + 1) ≤ code → 0 < b) → 0 < cond (eqb code (2 * j)) a b

@@ -4,19 +4,19 @@ use native.Mathlib.Nat.{add-zero}
 use native.Mathlib.Numerals.{add-one}
 use native.Mathlib.Omega.{arith}
 use mathlib.Core.Path.{_≡_, refl, sym, ap, subst, _∙_}
-use mathlib.Core.Bool.{Bool, true, false, cond, not, _&&_}
+use mathlib.Core.Bool.{Bool, true, false, cond}
 use mathlib.Core.List.{List, [], _∷_, _++_, append-assoc, append-nil}
-use lib.Dec.{eqb, ltb}
+use lib.Dec.{eqb}
 use lib.ListN.{length, take, drop, set, replicate, length-append, length-drop, length-set}
 use lib.Seq.{length-take-le, sets}
-use borrow.Author.Tests.{lt-ltb, not-true}
-use Rattle.serial_rules.specs.Escape.{escape, Piece, pending, dataByte, mark}
+use borrow.Author.Tests.{lt-ltb}
+use Rattle.serial_rules.specs.Escape.{Piece, pending, dataByte, mark}
 use Rattle.serial_rules.specs.Marks.{styleOf, codeIn}
-use Rattle.serial_rules.specs.Call.{return, Carrier, serial, parallel}
+use Rattle.serial_rules.specs.Call.{Carrier, serial, parallel}
 use Rattle.serial_rules.specs.Body.{Turn, more, done, refused, bodyTurn, longestBody}
 use Rattle.serial_rules.specs.Reader as rules
 use Rattle.turns.specs.Plain.{plain, Plains, none, one, Plain-done}
-use Rattle.turns.proofs.Plain.{done-plains, done-most, part-sets}
+use Rattle.turns.proofs.Plain.{no-escape, done-plains, done-most, part-sets}
 use Rattle.request_reader.specs.declared.Phase.{Phase}
 use Rattle.request_reader.specs.declared.Phase.the-variants.{Inside}
 use Rattle.request_reader.specs.declared.Reader.{Reader}
@@ -26,12 +26,12 @@ use Rattle.request_reader.specs.View.{carrierOf, within, viewOf, answerO
 use Rattle.request_reader.specs.Ahead.{Ahead-done}
 use Rattle.request_reader.specs.Read.{Read, stop, took}
 use Rattle.request_reader.specs.Pass.{passedFrom, Pass-done}
-use Rattle.request_reader.proofs.Limits.{and-both, longest-fits}
+use Rattle.request_reader.proofs.Limits.{longest-fits}
 use Rattle.request_reader.proofs.Steps.{within-style, within-count, taken, inside-data, data-goes, at-inside}
 
 -- a plain byte is data in itself, on either carrier
 data-in-itself : (c : Carrier) (b : ℕ) → plain b ≡ true → rules.pieceInside c false b ≡ dataByte b
-data-in-itself serial b h = rw (not-true (eqb b escape) (and-both (not (eqb b escape)) (not (eqb b return)) h .0))
+data-in-itself serial b h = rw (no-escape b h)
 data-in-itself parallel b h = refl
 
 plains-more : {l : List ℕ} (b : ℕ) → Plains l → plain b ≡ true → Plains (l ++ (b ∷ []))

@@ -15,6 +15,7 @@ use Rattle.serial_rules.specs.Marks.{styleOf, codeIn}
 use Rattle.serial_rules.specs.Call.{styleOk}
 use Rattle.serial_rules.specs.Body.{more, done, refused, bodyTurn, longestBody}
 use Rattle.serial_rules.specs.Reader as rules
+use Rattle.serial_rules.proofs.Trip.{and-both}
 use Rattle.request_reader.specs.View.{carrierOf, within, placed, viewOf, answerOf, lentAfter, Step-done}
 use Rattle.request_reader.specs.Parts.{standingOf, refusedFrom, restingFrom, goingFrom, Gives, Outside-done, Inside-done}
 use Rattle.request_reader.specs.declared.Phase.{Phase}
@@ -23,7 +24,7 @@ use Rattle.request_reader.specs.declared.Reader.{Reader}
 use Rattle.request_reader.specs.declared.Answer.{Answer}
 use Rattle.request_reader.specs.declared.Answer.the-variants.{More, Character, Request, Refused}
 use Rattle.request_reader.specs.declared.Stepped.{Stepped}
-use Rattle.request_reader.proofs.Limits.{and-both, more-fits, longest-fits, starts-style, starts-body}
+use Rattle.request_reader.proofs.Limits.{more-fits, longest-fits, starts-style, starts-body}
 
 -- a record within its limits, part by part
 pub within-style : (r : Reader) → within r ≡ true → styleOk (carrierOf (r .carrier)) (r .style) ≡ true

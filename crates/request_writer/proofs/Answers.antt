@@ -1,68 +1,78 @@
--- The number of the writer's answer after each check, and what the passed checks tell.
+-- What the writer promises of each of its answers.
 use Prim.Native.Nat.{ℕ, _≤_, _<_}
 use native.Mathlib.Omega.{arith}
-use mathlib.Core.Path.{_≡_, refl, sym}
-use mathlib.Core.Bool.{Bool, true, false, cond, not, _&&_, _||_, true≢false}
-use mathlib.Core.List.{List}
-use borrow.Author.Tests.{lt-ltb, le-ltb, eqb-true, leb-true}
-use lib.Dec.{eqb, ltb}
+use mathlib.Core.Path.{_≡_, refl, sym, _∙_}
+use mathlib.Core.Bool.{Bool, true, false, cond, not, _&&_}
+use mathlib.Core.List.{List, _++_}
+use borrow.Author.Tests.{lt-ltb, le-ltb, not-true, not-false}
+use lib.Dec.{ltb}
 use lib.ListN.{length}
-use Rattle.serial_rules.specs.Call.{Call, osrdch, oscli, osbyteLow, osbyteHigh, osword, osword0, osargs, osbget, osbput, osfindClose, osfindOpen, osfile, osgbpb, Carrier, serial, parallel, stringLimit, blockOk, hasString, numbersOk, hasReturn, callOk, styleOk, encodingOf, writerNumber}
+use Rattle.serial_rules.specs.Call.{Carrier, serial, parallel, stringLimit, callOk, heading, styleOk, encodingOf, writerNumber}
+use Rattle.serial_rules.specs.Call as rules
+use Rattle.serial_rules.proofs.Trip.{and-both}
+use Rattle.fields.specs.declared.Written.the-variants.{Done, TooLong, BadField, NoRoom}
+use Rattle.fields.specs.Carriers.{carrierOf, coded}
+use Rattle.fields.specs.Promise.{Length-done}
+use Rattle.fields.proofs.Laws.{told-done, told-none}
+use Rattle.request_writer.specs.declared.Call.{Call}
+use Rattle.request_writer.specs.declared.Row.{Row}
+use Rattle.request_writer.specs.Calls.{callOf}
+use Rattle.request_writer.specs.Promise.{Request-done}
+use Rattle.request_writer.specs.Rows.{lengthByte, headIn, tailIn, givenOk, Row-done, Writable}
+use Rattle.request_writer.proofs.Rows.{rules-same, code-fits, written}
 
--- the style and the fields of a call keep their rules
-abbrev allOk : Carrier → ℕ → Call → List ℕ → List ℕ → Bool
-allOk carrier style call b t = styleOk carrier style && callOk call b t
-
-module _ (carrier : Carrier) (style : ℕ) (call : Call) (b t : List ℕ) (room : ℕ) where
-  pub too-long : stringLimit < length t → writerNumber carrier style call b t room ≡ 6
+-- The number of the answer after each check.
+module _ (carrier : Carrier) (style : ℕ) (call : rules.Call) (b t : List ℕ) (room : ℕ) where
+  long-number : stringLimit < length t → writerNumber carrier style call b t room ≡ 6
   unfolding writerNumber
-  too-long h = simp (lt-ltb _ _ h)
+  long-number h = simp (lt-ltb _ _ h)
 
-  pub bad-field : length t ≤ stringLimit → allOk carrier style call b t ≡ false → writerNumber carrier style call b t room ≡ 9
+  bad-number : length t ≤ stringLimit → styleOk carrier style && callOk call b t ≡ false → writerNumber carrier style call b t room ≡ 9
   unfolding writerNumber
-  bad-field h ok = simp (le-ltb _ _ h, ok)
+  bad-number h ok = simp (le-ltb _ _ h, ok)
 
-  pub accepted : length t ≤ stringLimit → allOk carrier style call b t ≡ true
+  accepted : length t ≤ stringLimit → styleOk carrier style && callOk call b t ≡ true
       → writerNumber carrier style call b t room ≡ cond (ltb room (length (encodingOf carrier style call b t))) 8 0
   unfolding writerNumber
   accepted h ok = simp (le-ltb _ _ h, ok)
 
-both-true : (a b : Bool) → a && b ≡ true → (a ≡ true) × (b ≡ true)
-both-true true b h = (refl, h)
-both-true false b h = absurd (true≢false (sym h))
+-- an encoding has a heading
+some-byte : (carrier : Carrier) (style : ℕ) (call : rules.Call) (b t : List ℕ) → 0 < length (encodingOf carrier style call b t)
+unfolding encodingOf
+some-byte serial style call b t = omega arith
+some-byte parallel style call b t = omega arith
 
-style-fits : (carrier : Carrier) (style : ℕ) → styleOk carrier style ≡ true → style ≤ 3
-style-fits serial style h = leb-true style 3 h
-style-fits parallel style h = omega (arith, eqb-true style 0 h)
+pub too-long : (carrier : Carrier) (style : ℕ) (call : Call) (b t out : List ℕ) → stringLimit < length t → Request-done carrier style call b t out TooLong out
+too-long carrier style call b t out h = rw (long-number carrier style (callOf call) b t (length out) h) (record { answer = refl; written = refl; bytes = refl })
 
-exact : (nb k : ℕ) → k ≤ 255 → eqb nb k ≡ true → nb ≤ 255
-exact nb k h e = omega (arith, eqb-true nb k e)
+-- After the first check, with the call's row and what was found of all that is given.
+module _ (flag : Bool) (style : ℕ) (call : Call) (b t out : List ℕ) {n : ℕ} {row : Row} {ok : Bool} (short : length t ≤ stringLimit)
+    (byte : n ≡ lengthByte (length b)) (d : Row-done (callOf call) n row) (e : ok ≡ (styleOk (carrierOf flag) style && givenOk row b t)) where
+  judged : ok ≡ (styleOk (carrierOf flag) style && callOk (callOf call) b t)
+  judged = rw (rules-same b t d byte) at e
 
-block-fits : (call : Call) (nb : ℕ) → blockOk call nb ≡ true → nb ≤ 255
-block-fits osrdch nb h = exact nb 0 (omega arith) h
-block-fits oscli nb h = exact nb 0 (omega arith) h
-block-fits (osbyteLow x a) nb h = exact nb 0 (omega arith) h
-block-fits (osbyteHigh x y a) nb h = exact nb 0 (omega arith) h
-block-fits (osword a out) nb h = leb-true nb 255 h
-block-fits osword0 nb h = exact nb 5 (omega arith) h
-block-fits (osargs y a) nb h = exact nb 4 (omega arith) h
-block-fits (osbget y) nb h = exact nb 0 (omega arith) h
-block-fits (osbput y a) nb h = exact nb 0 (omega arith) h
-block-fits (osfindClose y) nb h = exact nb 0 (omega arith) h
-block-fits (osfindOpen a) nb h = exact nb 0 (omega arith) h
-block-fits (osfile a) nb h = exact nb 16 (omega arith) h
-block-fits (osgbpb a) nb h = exact nb 13 (omega arith) h
+  pub bad-field : not ok ≡ true → Request-done (carrierOf flag) style call b t out BadField out
+  bad-field h =
+      rw (bad-number (carrierOf flag) style (callOf call) b t (length out) short (sym judged ∙ not-true ok h)) (record { answer = refl; written = refl; bytes = refl })
 
--- What the check of the fields tells besides: that the mark and an OSWORD's in length are bytes.
-pub record Passed (style : ℕ) (b : List ℕ) : Type 0 where
-  pub style-small : style ≤ 3
-  pub block-small : length b ≤ 255
+  module _ (h : not ok ≡ false) where
+    all-ok : styleOk (carrierOf flag) style && callOk (callOf call) b t ≡ true
+    all-ok = sym judged ∙ not-false ok h
 
-pub passed : (carrier : Carrier) (style : ℕ) (call : Call) (b t : List ℕ) → allOk carrier style call b t ≡ true → Passed style b
-unfolding callOk
-passed carrier style call b t ok =
-    let strings = (hasString call || eqb (length t) 0) && not (hasReturn t) in
-    let x = both-true (styleOk carrier style) _ ok in
-    let y = both-true (numbersOk call) (blockOk call (length b) && strings) (x .1) in
-    let z = both-true (blockOk call (length b)) strings (y .1) in
-    record { style-small = style-fits carrier style (x .0); block-small = block-fits call (length b) (z .0) }
+    kept : (styleOk (carrierOf flag) style ≡ true) × (callOk (callOf call) b t ≡ true)
+    kept = and-both (styleOk (carrierOf flag) style) (callOk (callOf call) b t) all-ok
+
+    pub writable : Writable flag style row
+    writable = record { style-kept = kept .0; code-small = code-fits b t d byte; before-fits = d .before-fits; behind-fits = d .behind-fits }
+
+    module _ {m : ℕ} {left : List ℕ}
+        (w : Length-done (heading (carrierOf flag) style (row .code) ++ coded flag (headIn row ++ (b ++ (t ++ tailIn row)))) out m left) where
+      pub no-room : m ≡ 0 → Request-done (carrierOf flag) style call b t out NoRoom left
+      no-room z =
+          rw (accepted (carrierOf flag) style (callOf call) b t (length out) short all-ok)
+          (told-none (written b t d byte flag style (kept .1) w) (some-byte (carrierOf flag) style (callOf call) b t) z)
+
+      pub done : (m ≡ 0 → ⊥) → Request-done (carrierOf flag) style call b t out (Done m) left
+      done z =
+          rw (accepted (carrierOf flag) style (callOf call) b t (length out) short all-ok)
+          (told-done (written b t d byte flag style (kept .1) w) (omega arith))

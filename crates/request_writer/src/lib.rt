@@ -1,14 +1,13 @@
 // The calls that a client sends, and the writer of their requests.
-ghost use Prim.Native.Nat.{_≤_};
 ghost use mathlib.Core.Path.{_≡_};
-ghost use mathlib.Core.Bool.{_&&_, _||_};
+ghost use mathlib.Core.Bool.{_&&_};
 ghost use mathlib.Core.List.{_++_};
-ghost use lib.ListN.{length};
-ghost use Rattle.serial_rules.specs.Call.{serial, parallel, blockOk, hasString, numbersOk, callOk, heading, styleOk, encodingOf};
-ghost use Rattle.fields.specs.Carriers.{carrierOf, coded, fieldsRaw};
-ghost use Rattle.fields.specs.Promise.{Encoded};
+ghost use Rattle.serial_rules.specs.Call.{serial, parallel, heading, styleOk};
+ghost use Rattle.fields.specs.Carriers.{carrierOf, coded};
+ghost use Rattle.fields.specs.Promise.{Length-done};
 ghost use Rattle.request_writer.specs.Calls.{callOf};
 ghost use Rattle.request_writer.specs.Promise.{Request-done};
+ghost use Rattle.request_writer.specs.Rows.{lengthByte, headStart, headIn, tailIn, rowWith, givenOk, Row-done, Writable};
 use fields::Written;
 use strings::Text;
 
@@ -50,33 +49,109 @@ fn write(serial: bool, style: u8, call: Call, block: &[u8], text: &[u8], out: &m
     if Text::LIMIT < text.len() {
         return Written::TooLong;
     }
-    if !fields_ok(serial, style, call, block, text) {
+    let row = row_of(call, length_byte(block.len()));
+    if !given_ok(serial, style, row, block, text) {
         return Written::BadField;
     }
-    write_call(serial, style, call, block, text, out)
+    let n = write_row(serial, style, row, block, text, out);
+    if n == 0 {
+        return Written::NoRoom;
+    }
+    Written::Done(n)
 }
 
-// Whether the style and every field of a call keep their rules.
-fn fields_ok(serial: bool, style: u8, call: Call, block: &[u8], text: &[u8]) -> bool
-    ensures { λ r. ⌜ r ≡ (styleOk (carrierOf serial) style && callOk (callOf call) (now (block .entry)) (now (text .entry))) ⌝ }
+// A block's length as a byte; 0, which is not its length, where it is too long.
+fn length_byte(length: usize) -> u8
+    ensures { λ r. ⌜ r ≡ lengthByte length ⌝ }
 {
-    let clean = !strings::has_return(text);
-    let string_ok = both(either(has_string(call), text.len() == 0), clean);
-    let given_ok = both(block_ok(call, block.len()), string_ok);
-    both(style_ok(serial, style), both(numbers_ok(call), given_ok))
+    if length <= 255 { length as u8 } else { 0 }
 }
 
-// `&&` and `||` of two values, without a branch in the caller.
-fn both(a: bool, b: bool) -> bool
-    ensures { λ r. ⌜ r ≡ (a && b) ⌝ }
-{
-    if a { b } else { false }
+// What the request table says of a call: its code, whether its numbers keep their rules, how long its block is and whether it has a string;
+// and the numbers of its body, the first `before` of `head` before block and string, the first `behind` of `tail` behind them.
+struct Row {
+    code: u8,
+    good: bool,
+    block: u8,
+    string: bool,
+    head: [u8; 3],
+    before: usize,
+    tail: [u8; 2],
+    behind: usize,
 }
 
-fn either(a: bool, b: bool) -> bool
-    ensures { λ r. ⌜ r ≡ (a || b) ⌝ }
+// The row of a call, whose block has the length `length`.
+fn row_of(call: Call, length: u8) -> Row
+    ensures { λ r. ⌜ Row-done (callOf call) length r ⌝ }
 {
-    if a { true } else { b }
+    match call {
+        Call::Osrdch => cells(0x00, true, 0, false, [0, 0, 0], 0, [0, 0], 0),
+        Call::Oscli => cells(0x02, true, 0, true, [0, 0, 0], 0, [Text::RETURN, 0], 1),
+        Call::OsbyteLow { x, a } => cells(0x04, a < 0x80, 0, false, [x, a, 0], 2, [0, 0], 0),
+        Call::OsbyteHigh { x, y, a } => cells(0x06, 0x80 <= a, 0, false, [x, y, a], 3, [0, 0], 0),
+        Call::Osword { a, out_length } => cells(
+            0x08,
+            a != 0,
+            length,
+            false,
+            [a, length, 0],
+            2,
+            [out_length, 0],
+            1,
+        ),
+        Call::Osword0 => cells(0x0A, true, 5, false, [0, 0, 0], 0, [0, 0], 0),
+        Call::Osargs { y, a } => cells(0x0C, true, 4, false, [y, 0, 0], 1, [a, 0], 1),
+        Call::Osbget { y } => cells(0x0E, true, 0, false, [y, 0, 0], 1, [0, 0], 0),
+        Call::Osbput { y, a } => cells(0x10, true, 0, false, [y, a, 0], 2, [0, 0], 0),
+        Call::OsfindClose { y } => cells(0x12, true, 0, false, [0, y, 0], 2, [0, 0], 0),
+        Call::OsfindOpen { a } => cells(0x12, a != 0, 0, true, [a, 0, 0], 1, [Text::RETURN, 0], 1),
+        Call::Osfile { a } => cells(0x14, true, 16, true, [0, 0, 0], 0, [Text::RETURN, a], 2),
+        Call::Osgbpb { a } => cells(0x16, true, 13, false, [0, 0, 0], 0, [a, 0], 1),
+    }
+}
+
+// A row from its cells.
+fn cells(
+    code: u8,
+    good: bool,
+    block: u8,
+    string: bool,
+    head: [u8; 3],
+    before: usize,
+    tail: [u8; 2],
+    behind: usize,
+) -> Row
+    ensures { λ r. ⌜ r ≡ rowWith code good block string head before tail behind ⌝ }
+{
+    Row {
+        code: code,
+        good: good,
+        block: block,
+        string: string,
+        head: head,
+        before: before,
+        tail: tail,
+        behind: behind,
+    }
+}
+
+// Whether the style and all that is given keep the rules.
+fn given_ok(serial: bool, style: u8, row: Row, block: &[u8], text: &[u8]) -> bool
+    ensures { λ r. ⌜ r ≡ (styleOk (carrierOf serial) style && givenOk row (now (block .entry)) (now (text .entry))) ⌝ }
+{
+    if !style_ok(serial, style) {
+        return false;
+    }
+    if !row.good {
+        return false;
+    }
+    if block.len() != row.block as usize {
+        return false;
+    }
+    if row.string {
+        return !strings::has_return(text);
+    }
+    text.len() == 0
 }
 
 // Styles 0 to 3 on the serial lead, 0 on the parallel side.
@@ -89,142 +164,31 @@ fn style_ok(serial: bool, style: u8) -> bool
     style == 0
 }
 
-// Whether the numbers of a call keep their rules.
-fn numbers_ok(call: Call) -> bool
-    ensures { λ r. ⌜ r ≡ numbersOk (callOf call) ⌝ }
+// Writes the request of a row, whose style, block and string keep their rules: the escape and the mark, or the plain code, and the body.
+fn write_row(serial: bool, style: u8, row: Row, block: &[u8], text: &[u8], out: &mut [u8]) -> usize
+    requires { ⌜ Writable serial style row ⌝ }
+    ensures { λ r. ⌜ Length-done (heading (carrierOf serial) style (row .code) ++ coded serial (headIn row ++ (now (block .entry) ++ (now (text .entry) ++ tailIn row)))) (now (out .entry)) r (now (out .exit)) ⌝ }
 {
-    match call {
-        Call::Osrdch => true,
-        Call::Oscli => true,
-        Call::OsbyteLow { x: _, a } => a < 0x80,
-        Call::OsbyteHigh { x: _, y: _, a } => 0x80 <= a,
-        Call::Osword { a, out_length: _ } => a != 0,
-        Call::Osword0 => true,
-        Call::Osargs { y: _, a: _ } => true,
-        Call::Osbget { y: _ } => true,
-        Call::Osbput { y: _, a: _ } => true,
-        Call::OsfindClose { y: _ } => true,
-        Call::OsfindOpen { a } => a != 0,
-        Call::Osfile { a: _ } => true,
-        Call::Osgbpb { a: _ } => true,
-    }
+    let start = [escape::Piece::ESCAPE, style * 32 + row.code];
+    let from = head_start(serial);
+    let head = row.head;
+    let before = row.before;
+    let tail = row.tail;
+    let behind = row.behind;
+    fields::write_length(
+        serial,
+        &start[from..],
+        &head[..before],
+        block,
+        text,
+        &tail[..behind],
+        out,
+    )
 }
 
-// Whether the call takes a block of `length` bytes; one that has no block takes none.
-fn block_ok(call: Call, length: usize) -> bool
-    ensures { λ r. ⌜ r ≡ blockOk (callOf call) length ⌝ }
+// Where the heading starts in the escape and the mark: the parallel side has no escape.
+fn head_start(serial: bool) -> usize
+    ensures { λ r. ⌜ r ≡ headStart serial ⌝ }
 {
-    match call {
-        Call::Osrdch => length == 0,
-        Call::Oscli => length == 0,
-        Call::OsbyteLow { x: _, a: _ } => length == 0,
-        Call::OsbyteHigh { x: _, y: _, a: _ } => length == 0,
-        Call::Osword {
-            a: _,
-            out_length: _,
-        } => length <= 255,
-        Call::Osword0 => length == 5,
-        Call::Osargs { y: _, a: _ } => length == 4,
-        Call::Osbget { y: _ } => length == 0,
-        Call::Osbput { y: _, a: _ } => length == 0,
-        Call::OsfindClose { y: _ } => length == 0,
-        Call::OsfindOpen { a: _ } => length == 0,
-        Call::Osfile { a: _ } => length == 16,
-        Call::Osgbpb { a: _ } => length == 13,
-    }
-}
-
-// Whether the call has a string.
-fn has_string(call: Call) -> bool
-    ensures { λ r. ⌜ r ≡ hasString (callOf call) ⌝ }
-{
-    match call {
-        Call::Osrdch => false,
-        Call::Oscli => true,
-        Call::OsbyteLow { x: _, a: _ } => false,
-        Call::OsbyteHigh { x: _, y: _, a: _ } => false,
-        Call::Osword {
-            a: _,
-            out_length: _,
-        } => false,
-        Call::Osword0 => false,
-        Call::Osargs { y: _, a: _ } => false,
-        Call::Osbget { y: _ } => false,
-        Call::Osbput { y: _, a: _ } => false,
-        Call::OsfindClose { y: _ } => false,
-        Call::OsfindOpen { a: _ } => true,
-        Call::Osfile { a: _ } => true,
-        Call::Osgbpb { a: _ } => false,
-    }
-}
-
-// Writes the request of a call that keeps its rules: its code, and its body as one run of data bytes or three.
-fn write_call(
-    serial: bool,
-    style: u8,
-    call: Call,
-    block: &[u8],
-    text: &[u8],
-    out: &mut [u8],
-) -> Written
-    requires { ⌜ (style ≤ 3) × (length (now block) ≤ 255) ⌝ }
-    ensures { λ r. ⌜ Encoded (encodingOf (carrierOf serial) style (callOf call) (now (block .entry)) (now (text .entry))) (now (out .entry)) r (now (out .exit)) ⌝ }
-{
-    match call {
-        Call::Osrdch => write_run(serial, style, 0x00, &[], out),
-        Call::Oscli => write_runs(serial, style, 0x02, text, &[Text::RETURN], &[], out),
-        Call::OsbyteLow { x, a } => write_run(serial, style, 0x04, &[x, a], out),
-        Call::OsbyteHigh { x, y, a } => write_run(serial, style, 0x06, &[x, y, a], out),
-        Call::Osword { a, out_length } => write_runs(
-            serial,
-            style,
-            0x08,
-            &[a, block.len() as u8],
-            block,
-            &[out_length],
-            out,
-        ),
-        Call::Osword0 => write_run(serial, style, 0x0A, block, out),
-        Call::Osargs { y, a } => write_runs(serial, style, 0x0C, &[y], block, &[a], out),
-        Call::Osbget { y } => write_run(serial, style, 0x0E, &[y], out),
-        Call::Osbput { y, a } => write_run(serial, style, 0x10, &[y, a], out),
-        Call::OsfindClose { y } => write_run(serial, style, 0x12, &[0, y], out),
-        Call::OsfindOpen { a } => write_runs(serial, style, 0x12, &[a], text, &[Text::RETURN], out),
-        Call::Osfile { a } => write_runs(serial, style, 0x14, block, text, &[Text::RETURN, a], out),
-        Call::Osgbpb { a } => write_runs(serial, style, 0x16, block, &[a], &[], out),
-    }
-}
-
-// Writes a request whose body is one run of data bytes.
-fn write_run(serial: bool, style: u8, code: u8, bytes: &[u8], out: &mut [u8]) -> Written
-    requires { ⌜ (style ≤ 3) × (code ≤ 22) ⌝ }
-    ensures { λ r. ⌜ Encoded (heading (carrierOf serial) style code ++ coded serial (now (bytes .entry))) (now (out .entry)) r (now (out .exit)) ⌝ }
-{
-    write_runs(serial, style, code, &[], &[], bytes, out)
-}
-
-// Writes the heading, the escape and the mark or the plain code, and three runs of data bytes.
-fn write_runs(
-    serial: bool,
-    style: u8,
-    code: u8,
-    first: &[u8],
-    second: &[u8],
-    third: &[u8],
-    out: &mut [u8],
-) -> Written
-    requires { ⌜ (style ≤ 3) × (code ≤ 22) ⌝ }
-    ensures { λ r. ⌜ Encoded (fieldsRaw serial (heading (carrierOf serial) style code) (now (first .entry)) (now (second .entry)) (now (third .entry))) (now (out .entry)) r (now (out .exit)) ⌝ }
-{
-    if serial {
-        return fields::write_fields(
-            true,
-            &[escape::Piece::ESCAPE, style * 32 + code],
-            first,
-            second,
-            third,
-            out,
-        );
-    }
-    fields::write_fields(false, &[code], first, second, third, out)
+    if serial { 0 } else { 1 }
 }

@@ -153,7 +153,7 @@ cli-back body w =
 length-is : (code last : ℕ) (w : List ℕ) → ((u : List ℕ) (b : ℕ) → bodyTurn code u b ≡ more → length u < last) → Goes code [] w → last ≤ length w → length w ≡ last
 length-is code last w rule g h = let m = fixed-long code last w rule g in omega arith
 
-zero-long : (l : List ℕ) → length l ≡ 0 → l ≡ []
+pub zero-long : (l : List ℕ) → length l ≡ 0 → l ≡ []
 zero-long [] h = refl
 zero-long (x ∷ l) h = absurd (omega arith)
 

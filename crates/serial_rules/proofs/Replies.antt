@@ -21,6 +21,7 @@ use Rattle.serial_rules.proofs.Trip.{and-both}
 use Rattle.serial_rules.proofs.Session.{layers-told}
 use Rattle.serial_rules.proofs.Parts.{second, data-signs, behind-data, fill-append, fill-data, length-snoc}
 use Rattle.serial_rules.proofs.Actions.{within-said}
+use Rattle.serial_rules.proofs.Finished.{zero-long}
 use Rattle.serial_rules.proofs.Ends.{Ends, last, next, fixed-ends, line-ends}
 
 -- the replies of each form
@@ -134,12 +135,8 @@ whole b t (file {a = a}) e n m h = fixed-ends 17 0 a b (omega (arith, e))
 whole b t (gbpb {c = c} {a = a}) e n m h = fixed-whole 15 (b ++ (carryByte c ∷ a ∷ [])) (omega (arith, e, length-append b (carryByte c ∷ a ∷ []))) (λ z. omega arith)
 
 -- its bytes, read by the kind, are the reply
-empty : (l : List ℕ) → length l ≡ 0 → l ≡ []
-empty [] h = refl
-empty (x ∷ l) h = absurd (omega (arith, h))
-
-no-text : (t : List ℕ) → eqb (length t) 0 ≡ true → t ≡ []
-no-text t h = empty t (eqb-true (length t) 0 h)
+pub no-text : (t : List ℕ) → eqb (length t) 0 ≡ true → t ≡ []
+no-text t h = zero-long t (eqb-true (length t) 0 h)
 
 carry-back : (c : Bool) → flag (carryByte c) ≡ c
 carry-back true = refl
@@ -156,18 +153,18 @@ second-at b c a e =
 
 back : {k : Kind} {r : Reply} (b t : List ℕ) → Fits k r → length b ≡ blockIn k → (hasLine r || eqb (length t) 0) ≡ true → replyRead k (replyBytes r b t) ≡ given r b t
 unfolding replyBytes replyRead
-back b t (rdch {c = c}) e h = rw (empty b e, no-text t h, carry-back c)
-back b t (cli {k = k}) e h = rw (empty b e, no-text t h, ack-back k)
-back b t low e h = rw (empty b e, no-text t h)
-back b t (high {c = c}) e h = rw (empty b e, no-text t h, carry-back c)
+back b t (rdch {c = c}) e h = rw (zero-long b e, no-text t h, carry-back c)
+back b t (cli {k = k}) e h = rw (zero-long b e, no-text t h, ack-back k)
+back b t low e h = rw (zero-long b e, no-text t h)
+back b t (high {c = c}) e h = rw (zero-long b e, no-text t h, carry-back c)
 back b t word e h = rw (no-text t h)
-back b t gone e h = rw (empty b e, no-text t h)
-back b t typed e h = rw (empty b e, take-at t (return ∷ []) (suc (length (t ++ (return ∷ []))) - 2) (omega (arith, length-append t (return ∷ []))))
+back b t gone e h = rw (zero-long b e, no-text t h)
+back b t typed e h = rw (zero-long b e, take-at t (return ∷ []) (suc (length (t ++ (return ∷ []))) - 2) (omega (arith, length-append t (return ∷ []))))
 back b t args e h = rw (no-text t h)
-back b t (bget {c = c}) e h = rw (empty b e, no-text t h, carry-back c)
-back b t bput e h = rw (empty b e, no-text t h)
-back b t closed e h = rw (empty b e, no-text t h)
-back b t opened e h = rw (empty b e, no-text t h)
+back b t (bget {c = c}) e h = rw (zero-long b e, no-text t h, carry-back c)
+back b t bput e h = rw (zero-long b e, no-text t h)
+back b t closed e h = rw (zero-long b e, no-text t h)
+back b t opened e h = rw (zero-long b e, no-text t h)
 back b t file e h = rw (no-text t h)
 back b t (gbpb {c = c} {a = a}) e h =
     rw (
@@ -240,7 +237,7 @@ no-bytes b t rdch e h = absurd (omega arith)
 no-bytes b t cli e h = absurd (omega arith)
 no-bytes b t low e h = absurd (omega arith)
 no-bytes b t high e h = absurd (omega arith)
-no-bytes b t word e h = empty b (e ∙ h)
+no-bytes b t word e h = zero-long b (e ∙ h)
 no-bytes b t gone e h = absurd (omega arith)
 no-bytes b t typed e h = absurd (omega arith)
 no-bytes b t args e h = absurd (omega arith)

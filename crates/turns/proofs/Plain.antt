@@ -4,13 +4,26 @@ use native.Mathlib.Nat.{zero-add}
 use native.Mathlib.Numerals.{add-one, unary-clauses}
 use native.Mathlib.Omega.{arith}
 use mathlib.Core.Path.{_≡_, refl, sym, ap, _∙_}
-use mathlib.Core.Bool.{Bool, true, false, cond}
+use mathlib.Core.Bool.{Bool, true, false, cond, not, _&&_}
 use mathlib.Core.List.{List, [], _∷_, _++_, append-assoc}
+use borrow.Author.Tests.{not-true}
+use lib.Dec.{eqb}
 use lib.ListN.{length, take, drop, getD, set, length-drop, drop-of-length-le, take-append-drop}
 use lib.Seq.{length-take-le, drop-cons, drop-append-le, drop-drop, sets, sets-eq}
+use Rattle.serial_rules.specs.Escape.{escape}
+use Rattle.serial_rules.specs.Call.{return}
+use Rattle.serial_rules.proofs.Trip.{and-both}
 use Rattle.escape.specs.Put.{Put}
 use Rattle.escape.proofs.Laws.{put-none, put-next}
 use Rattle.turns.specs.Plain.{plain, Plains, none, one, plainRun, Plain-done}
+
+-- a plain byte is neither
+module _ (b : ℕ) (h : plain b ≡ true) where
+  pub no-escape : eqb b escape ≡ false
+  no-escape = not-true (eqb b escape) (and-both (not (eqb b escape)) (not (eqb b return)) h .0)
+
+  pub no-return : eqb b return ≡ false
+  no-return = not-true (eqb b return) (and-both (not (eqb b escape)) (not (eqb b return)) h .1)
 
 -- no room, no byte left, a byte that is not plain, and one that is
 none-left : (n : ℕ) → plainRun n [] ≡ 0

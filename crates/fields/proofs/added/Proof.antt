@@ -1,15 +1,14 @@
--- Where the carrier adds bytes it is the serial lead, which adds one for each escape byte.
-use mathlib.Core.Path.{sym, _∙_}
+-- The flag tells the carrier, and only the serial lead adds bytes.
 use borrow.Author.Needs.{needs}
-use Rattle.fields.proofs.Laws.{adds-some, adds-none}
+use Rattle.fields.specs.Carriers.{addedOn}
 use Rattle.fields.proofs.added.Statement.{statement}
 use Rattle.fields.proofs.added.Tie as tie
 
 pub added-spec : {M : Type 1} → statement M
+unfolding addedOn
 added-spec =
     tie.close
     (tie.spec
     (λ c κs. search needs)
-    (λ c κs. search needs)
-    (λ c. c .count-escapes .ensures ∙ adds-some _ _ (sym (c .before .before .doubles .ensures) ∙ c .before .if1 .taken))
-    (λ c. sym (adds-none _ (sym (c .before .doubles .ensures) ∙ c .if1 .left))))
+    (λ c. simp (c .before .if1 .taken, c .count-escapes .ensures))
+    (λ c. simp (c .if1 .left)))

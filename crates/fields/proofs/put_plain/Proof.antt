@@ -6,8 +6,7 @@ use denote.Ref.{now}
 use lib.ListN.{length, take}
 use lib.Seq.{take-all}
 use Rattle.escape.specs.Put.{Put}
-use Rattle.escape.proofs.Laws.{put-none, put-as, put-length}
-use Rattle.fields.proofs.Laws.{put-next}
+use Rattle.escape.proofs.Laws.{put-none, put-next, put-as, put-length}
 use Rattle.fields.proofs.put_plain.Statement.{statement}
 use Rattle.fields.proofs.put_plain.Tie as tie
 
@@ -23,7 +22,7 @@ slice-write-out c = let h = put-length (c .before .before .loop .inv .1) in omeg
 loop-again : tie.Need-loop-again Inv-loop μ-loop
 loop-again c =
     let s = c .before .before .before in
-    (search needs, put-next (now (s .args .bytes)) (c .before .loop-test .taken) (s .pre) (c .before .before .loop .inv .1))
+    (search needs, put-next (now (s .args .bytes)) (c .before .loop-test .taken) (omega (arith, s .pre)) (c .before .before .loop .inv .1))
 
 pub put-plain-spec : {M : Type 1} → statement M
 put-plain-spec =

@@ -1,44 +1,47 @@
 -- The checks come in the order of their answers and before the first byte is written; after them only the room is left to test.
-use Prim.Native.Nat.{_<_}
-use native.Mathlib.Omega.{arith}
-use mathlib.Core.Path.{_≡_, refl, sym, _∙_}
-use mathlib.Core.Bool.{true, _&&_}
 use borrow.Author.Needs.{needs}
-use borrow.Author.Tests.{not-true, not-false}
 use denote.Ref.{now}
-use lib.ListN.{length}
-use Rattle.serial_rules.specs.Call.{stringLimit, styleOk, callOk}
 use Rattle.fields.specs.Carriers.{carrierOf}
-use Rattle.request_writer.specs.Calls.{callOf}
-use Rattle.request_writer.proofs.Answers.{too-long, bad-field, accepted, passed}
+use Rattle.request_writer.proofs.Answers.{too-long, bad-field, writable, no-room, done}
 use Rattle.request_writer.proofs.write.Statement.{statement}
 use Rattle.request_writer.proofs.write.Tie as tie
 
 returns : tie.Need-returns
 returns c =
-    let long : stringLimit < length (now (c .before .before .before .before .args .text)) = omega arith in
-    rw (too-long _ _ _ _ _ _ long) (record { answer = refl; written = refl; bytes = refl })
+    let a = c .before .before .before .before .args in
+    too-long (carrierOf (a .serial)) (a .style) (a .call) (now (a .block)) (now (a .text)) (now (a .out)) (c .if1 .taken)
 
 returns-2 : tie.Need-returns-2
 returns-2 c =
-    rw (bad-field _ _ _ _ _ _ (c .before .before .if1 .left) (sym (c .before .fields-ok .ensures) ∙ not-true _ (c .if2 .taken)))
-    (record { answer = refl; written = refl; bytes = refl })
+    let g = c .before in
+    let a = g .before .before .before .before .before .before .before .args in
+    bad-field (a .serial) (a .style) (a .call) (now (a .block)) (now (a .text)) (now (a .out)) (g .before .before .before .if1 .left)
+    (g .before .before .length-byte .ensures) (g .before .row-of .ensures) (g .given-ok .ensures) (c .if2 .taken)
 
--- after the second check
-rules-kept : (c : tie.Else2) → let a = c .before .before .before .before .before .before .args in
-    styleOk (carrierOf (a .serial)) (a .style) && callOk (callOf (a .call)) (now (a .block)) (now (a .text)) ≡ true
-rules-kept c = sym (c .before .fields-ok .ensures) ∙ not-false _ (c .if2 .left)
-
-write-call-requires : tie.Need-write-call-requires
-write-call-requires c κs =
-    let a = c .before .before .before .before .before .before .before .args in
-    let p = passed (carrierOf (a .serial)) (a .style) (callOf (a .call)) (now (a .block)) (now (a .text)) (rules-kept (c .before)) in
-    (p .style-small, p .block-small)
+write-row-requires : tie.Need-write-row-requires
+write-row-requires c κs =
+    let g = c .before .before in
+    let a = g .before .before .before .before .before .before .before .args in
+    writable (a .serial) (a .style) (a .call) (now (a .block)) (now (a .text)) (now (a .out)) (g .before .before .before .if1 .left)
+    (g .before .before .length-byte .ensures) (g .before .row-of .ensures) (g .given-ok .ensures) (c .before .if2 .left)
 
 returns-3 : tie.Need-returns-3
 returns-3 c =
-    let l = c .before .before .before .before in
-    rw (accepted _ _ _ _ _ _ (l .before .before .if1 .left) (rules-kept l)) (c .before .before .write-call .ensures)
+    let i = c .before .before .before .before .before in
+    let g = i .before in
+    let a = g .before .before .before .before .before .before .before .args in
+    no-room (a .serial) (a .style) (a .call) (now (a .block)) (now (a .text)) (now (a .out)) (g .before .before .before .if1 .left)
+    (g .before .before .length-byte .ensures) (g .before .row-of .ensures) (g .given-ok .ensures) (i .if2 .left)
+    (c .before .before .before .write-row .ensures) (c .if3 .taken)
+
+returns-4 : tie.Need-returns-4
+returns-4 c =
+    let i = c .before .before .before .before .before in
+    let g = i .before in
+    let a = g .before .before .before .before .before .before .before .args in
+    done (a .serial) (a .style) (a .call) (now (a .block)) (now (a .text)) (now (a .out)) (g .before .before .before .if1 .left)
+    (g .before .before .length-byte .ensures) (g .before .row-of .ensures) (g .given-ok .ensures) (i .if2 .left)
+    (c .before .before .before .write-row .ensures) (c .if3 .left)
 
 pub write-spec : {M : Type 1} → statement M
 write-spec =
@@ -46,7 +49,11 @@ write-spec =
     (tie.spec
     returns
     (λ c κs. search needs)
+    (λ c κs. search needs)
+    (λ c κs. search needs)
     returns-2
-    write-call-requires
+    write-row-requires
     (λ c. search needs)
-    returns-3)
+    returns-3
+    (λ c. search needs)
+    returns-4)

@@ -1,8 +1,8 @@
 -- The test of the byte is that of the rule.
 use borrow.Author.Needs.{needs}
 use borrow.Author.Tests.{eq-eqb, ne-eqb}
-use Rattle.fields.proofs.is_escape.Statement.{statement}
-use Rattle.fields.proofs.is_escape.Tie as tie
+use Rattle.escape.proofs.is_escape.Statement.{statement}
+use Rattle.escape.proofs.is_escape.Tie as tie
 
 pub is-escape-spec : {M : Type 1} → statement M
 is-escape-spec =

@@ -6,9 +6,9 @@ use mathlib.Core.Path.{_≡_}
 use denote.Ref.{now}
 use lib.ListN.{length, drop}
 use Rattle.serial_rules.specs.Escape.{escapes}
-use Rattle.fields.proofs.Laws.{escapes-more, escapes-none}
-use Rattle.fields.proofs.count_escapes.Statement.{statement}
-use Rattle.fields.proofs.count_escapes.Tie as tie
+use Rattle.escape.proofs.Laws.{escapes-more, escapes-none}
+use Rattle.escape.proofs.count_escapes.Statement.{statement}
+use Rattle.escape.proofs.count_escapes.Tie as tie
 
 abbrev Inv-loop : tie.InvT-loop
 Inv-loop bytes n₀ i₀ n i = (i ≤ length bytes) × (n ≤ i) × (n + escapes (drop i bytes) ≡ escapes bytes)
