@@ -1,5 +1,3 @@
-pub mod Ahead
-pub mod Bytes
 pub mod Feed
 pub mod Limits
 pub mod Plains

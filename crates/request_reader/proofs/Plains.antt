@@ -23,7 +23,7 @@ use Rattle.request_reader.specs.declared.Reader.{Reader}
 use Rattle.request_reader.specs.declared.Answer.the-variants.{More}
 use Rattle.request_reader.specs.declared.Stepped.{Stepped}
 use Rattle.request_reader.specs.View.{carrierOf, within, viewOf, answerOf, Step-done}
-use Rattle.request_reader.specs.Ahead.{Ahead-done}
+use Rattle.bodies.specs.Ahead.{Ahead-done}
 use Rattle.request_reader.specs.Read.{Read, stop, took}
 use Rattle.request_reader.specs.Pass.{passedFrom, Pass-done}
 use Rattle.request_reader.proofs.Limits.{longest-fits}

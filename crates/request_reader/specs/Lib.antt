@@ -1,5 +1,4 @@
 pub mod View
-pub mod Ahead
 pub mod Parts
 pub mod Read
 pub mod Feed

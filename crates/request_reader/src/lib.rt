@@ -1,6 +1,4 @@
 // The stepwise reader of requests: one raw byte at a time, or a slice up to its first answer, the body so far in bytes that the caller lends.
-mod bodies;
-
 use escape::Piece;
 use turns::Turn;
 ghost use Prim.Native.Nat.{_+_, _≤_, _<_};
@@ -61,9 +59,6 @@ pub struct Fed {
 }
 
 impl Reader {
-    // The longest body of a request, OSFILE's: 16 bytes, a string of 255, its return, A.
-    pub const LONGEST_BODY: usize = 273;
-
     pub fn new(carrier: Carrier) -> Reader
         ensures { λ r. ⌜ r ≡ fresh carrier ⌝ }
     {
