@@ -17,9 +17,9 @@ use Rattle.link.specs.declared.Stepped.{Stepped}
 use Rattle.link.specs.declared.Begun.{Begun}
 use Rattle.link.specs.declared.Begun.the-variants.{Waits, Complete, Denied}
 use Rattle.link.specs.declared.Started.{Started}
-use Rattle.link.specs.declared.Ran.{Ran}
+use Rattle.link_loop.specs.declared.Ran.{Ran}
 use Rattle.link.specs.View.{usableOf, viewOf, reportOf, replyAfter, ownAfter, stoppedFrom, begunOf, Begin-done, Step-done}
-use Rattle.link.specs.Run.{Run-done}
+use Rattle.link_loop.specs.Run.{Run-done}
 use Rattle.flat_link.specs.declared.FlatLink.{FlatLink}
 use Rattle.flat_link.specs.declared.FlatRan.{FlatRan}
 use Rattle.flat_link.specs.declared.FlatBegun.{FlatBegun}

@@ -11,9 +11,9 @@ use Rattle.serial_rules.specs.Link as rules
 use Rattle.link.specs.declared.Link.{Link}
 use Rattle.link.specs.declared.Answer.{Answer}
 use Rattle.link.specs.declared.Answer.the-variants as variant
-use Rattle.link.specs.declared.Ran.{Ran}
+use Rattle.link_loop.specs.declared.Ran.{Ran}
 use Rattle.link.specs.View.{reportOf, Step-done}
-use Rattle.link.specs.Run.{Runs, stop, took, passes, Passed, next, noteOf, notes, lastOf, Ran-done}
+use Rattle.link_loop.specs.Run.{Runs, stop, took, passes, Passed, next, noteOf, notes, lastOf, Ran-done}
 use Rattle.flat_link.specs.declared.FlatLink.{FlatLink}
 use Rattle.flat_link.specs.declared.FlatTold.{FlatTold}
 use Rattle.flat_link.specs.declared.FlatRan.{FlatRan}

@@ -6,8 +6,8 @@ use mathlib.Core.List.{List}
 use lib.Dec.{eqb, ltb}
 use lib.ListN.{length}
 use Rattle.link.specs.declared.Answer.the-variants as variant
-use Rattle.link.specs.declared.Ran.{Ran}
-use Rattle.link.specs.Run.{Run-done}
+use Rattle.link_loop.specs.declared.Ran.{Ran}
+use Rattle.link_loop.specs.Run.{Run-done}
 use Rattle.flat_link.specs.declared.FlatLink.{FlatLink}
 use Rattle.flat_link.specs.declared.FlatTold.{FlatTold}
 use Rattle.flat_link.specs.declared.FlatRan.{FlatRan}

@@ -15,8 +15,8 @@ use link::Answer;
 use link::Begun;
 use link::Doing;
 use link::Link;
-use link::Ran;
 use link::Wait;
+use link_loop::Ran;
 use reply::Given;
 use reply::Reply;
 use strings::Text;
@@ -123,7 +123,7 @@ pub fn begin(link: FlatLink, call: u8, out_length: u8) -> FlatBegun
     flat_begun(link, Begun::Denied(7))
 }
 
-// The loop over raw bytes: see `link::Link::run`.
+// The loop over raw bytes: see `link_loop::run`.
 pub fn run(
     link: FlatLink,
     raw: &[u8],
@@ -134,7 +134,10 @@ pub fn run(
     ensures { λ r. ⌜ Flat-run-done link (now (reply .entry)) (now (own .entry)) (now (raw .entry)) (now (room .entry)) r (now (reply .exit)) (now (own .exit)) (now (room .exit)) ⌝ }
 {
     if has_tags(link) {
-        return flat_ran(link, unflattened(link).run(raw, reply, own, room));
+        return flat_ran(
+            link,
+            link_loop::run(unflattened(link), raw, reply, own, room),
+        );
     }
     unknown(link, raw.len(), room.len())
 }

@@ -1,10 +1,10 @@
--- What the parts of a step and of the loop promise.
-use Prim.Native.Nat.{ℕ, _+_, _≤_, _<_}
+-- What the parts of a step promise.
+use Prim.Native.Nat.{ℕ}
 use mathlib.Core.Path.{_≡_}
-use mathlib.Core.Bool.{Bool, true, false, cond, not}
-use mathlib.Core.List.{List, []}
+use mathlib.Core.Bool.{true, false, cond}
+use mathlib.Core.List.{List}
 use lib.Dec.{eqb}
-use lib.ListN.{length, take, replicate}
+use lib.ListN.{take}
 use Rattle.serial_rules.specs.Fields.{at}
 use Rattle.serial_rules.specs.Link as rules
 use Rattle.link.specs.declared.Wait.{Wait}
@@ -18,9 +18,7 @@ use Rattle.link.specs.declared.Answer.the-variants as variant
 use Rattle.link.specs.declared.Stepped.{Stepped}
 use Rattle.link.specs.declared.Begun.{Begun}
 use Rattle.link.specs.declared.Started.{Started}
-use Rattle.link.specs.declared.Ran.{Ran}
 use Rattle.link.specs.View.{waitFor, doingFor, viewOf, reportOf, tokenLent, doingLent, stoppedFrom}
-use Rattle.link.specs.Run.{Runs, passes, noteOf}
 
 abbrev pub begunFrom : Link → Begun → Started
 begunFrom l a = record { answer = a; link = l }
@@ -91,23 +89,3 @@ Finished-done l a own r = (reply : List ℕ) → Met l reply own (rules.seen (fi
 
 abbrev pub failureFor : ℕ → ℕ → Answer
 failureFor n k = cond (eqb n 0) (cond (eqb k 0) variant.Restart (variant.Error n k)) (variant.Error n k)
-
--- what the loop leaves
-abbrev pub endedFrom : Link → Answer → ℕ → ℕ → Ran
-endedFrom l a used noted = record { answer = a; used = used; noted = noted; link = l }
-
--- Whether an answer ends the loop, and the note of one that does not: neither asks for the lent bytes.
-abbrev pub endsOf : Answer → Bool
-endsOf a = not (passes (reportOf a [] []))
-
-abbrev pub noteFor : Answer → List ℕ
-noteFor a = noteOf (reportOf a [] [])
-
--- Plain raw bytes of the reply that waits, stored at once: the link after n of them, and the steps that they stand for.
-abbrev pub passedFrom : Link → ℕ → Link
-passedFrom l n = record { wait = l .wait; got = l .got + n; escape = l .escape; doing = l .doing; held = l .held; stopped = l .stopped }
-
-pub record Pass-done (link : Link) (reply raw : List ℕ) (n : ℕ) (left : List ℕ) : Type 0 where
-  pub within : n ≤ length raw
-  pub below : 0 < n → link .got + n ≤ 257
-  pub steps : (own : List ℕ) → Runs link reply own (take n raw) (replicate n rules.needMore) (passedFrom link n) left own

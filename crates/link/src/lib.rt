@@ -3,19 +3,16 @@ use escape::Piece;
 use kind::CallKind;
 use kind::Shape;
 use turns::Turn;
-ghost use Prim.Native.Nat.{_+_, _*_, _<_, _≤_};
+ghost use Prim.Native.Nat.{_<_, _≤_};
 ghost use mathlib.Core.Path.{_≡_};
-ghost use mathlib.Core.Bool.{true, false, cond};
-ghost use mathlib.Core.List.{[], _∷_};
+ghost use mathlib.Core.Bool.{true};
 ghost use lib.ListN.{length};
-ghost use Rattle.escape.specs.Put.{Put};
 ghost use Rattle.serial_rules.specs.Link.{ownShape};
 ghost use Rattle.kind.specs.Kinds.{shapeFor};
 ghost use Rattle.link.specs.declared.Wait.the-variants.{Waiting};
-ghost use Rattle.link.specs.declared.Doing.the-variants.{Quiet, Open};
+ghost use Rattle.link.specs.declared.Doing.the-variants.{Open};
 ghost use Rattle.link.specs.View.{actionFor, replyRoom, ownRoom, usableOf, fresh, Begin-done, Step-done};
-ghost use Rattle.link.specs.Run.{Run-done};
-ghost use Rattle.link.specs.Parts.{begunFrom, refusedFrom, pausedFrom, goingFrom, restingWith, Mark-done, Opening-done, Data-done, Reply-done, Own-done, Finished-done, failureFor, endedFrom, endsOf, noteFor, passedFrom, Pass-done};
+ghost use Rattle.link.specs.Parts.{begunFrom, refusedFrom, pausedFrom, goingFrom, restingWith, Mark-done, Opening-done, Data-done, Reply-done, Own-done, Finished-done, failureFor};
 
 // What waits: nothing, or one call of a kind.
 pub enum Wait {
@@ -76,15 +73,6 @@ pub enum Begun {
 
 pub struct Started {
     pub answer: Begun,
-    pub link: Link,
-}
-
-// Where the loop ended: a finished reply, an error or restart, a refusal, or need-more at the end of its raw bytes; how many of them it used;
-// how many notes it wrote; the link.
-pub struct Ran {
-    pub answer: Answer,
-    pub used: usize,
-    pub noted: usize,
     pub link: Link,
 }
 
@@ -155,96 +143,6 @@ impl Link {
             Piece::Pending => self.pausing(),
             Piece::Mark(m) => self.mark_step(m),
             Piece::Data(b) => self.data_step(b, reply, own),
-        }
-    }
-
-    // Raw bytes, until a reply is finished, an error or restart comes, a byte is refused, or they end. Each character and action that it
-    // passes over gets a note of five bytes in the lent room; without room for a note a raw byte nothing is done.
-    pub fn run(self, raw: &[u8], reply: &mut [u8; 257], own: &mut [u8; 257], room: &mut [u8]) -> Ran
-        ensures { λ r. ⌜ Run-done self (now (reply .entry)) (now (own .entry)) (now (raw .entry)) (now (room .entry)) r (now (reply .exit)) (now (own .exit)) (now (room .exit)) ⌝ }
-    {
-        if room.len() / 5 < raw.len() {
-            return self.ended(Answer::Refused(8), 0, 0);
-        }
-        let mut at = self;
-        let mut i: usize = 0;
-        let mut noted: usize = 0;
-        while i < raw.len() {
-            let s = at.step(raw[i], reply, own);
-            let answer = s.answer;
-            at = s.link;
-            i += 1;
-            let Answer::Reply(length) = answer else {
-                if ends(answer) {
-                    return at.ended(answer, i, noted);
-                }
-                noted += put_note(answer, &mut room[5 * noted..]);
-                let n = at.pass(&raw[i..], reply);
-                at = at.passed(n);
-                i += n;
-                continue;
-            };
-            return at.ended(Answer::Reply(length), i, noted);
-        }
-        at.ended(Answer::More, i, noted)
-    }
-
-    // Plain raw bytes in the middle of the reply that waits: each would need more, and they are stored at once. Returns how many.
-    fn pass(self, raw: &[u8], reply: &mut [u8]) -> usize
-        requires { ⌜ (usableOf self ≡ true) × (length (now reply) ≡ 257) ⌝ }
-        ensures { λ r. ⌜ Pass-done self (now (reply .entry)) (now (raw .entry)) r (now (reply .exit)) ⌝ }
-    {
-        if self.escape {
-            return 0;
-        }
-        let doing = self.doing;
-        match doing {
-            Doing::Open(_) => 0,
-            Doing::Quiet => {
-                let wait = self.wait;
-                match wait {
-                    Wait::Idle => 0,
-                    Wait::Waiting(kind) => self.pass_reply(kind, raw, reply),
-                }
-            }
-        }
-    }
-
-    fn pass_reply(self, kind: CallKind, raw: &[u8], reply: &mut [u8]) -> usize
-        requires { ⌜ (usableOf self ≡ true) × (self .escape ≡ false) × (self .doing ≡ Quiet) × (self .wait ≡ Waiting kind) × (length (now reply) ≡ 257) ⌝ }
-        ensures { λ r. ⌜ Pass-done self (now (reply .entry)) (now (raw .entry)) r (now (reply .exit)) ⌝ }
-    {
-        let got = self.got;
-        let end = got + kind.shape().ahead(got);
-        turns::copy_plain(raw, &mut reply[got..end])
-    }
-
-    // The link after that many bytes of the reply.
-    fn passed(self, n: usize) -> Link
-        requires { ⌜ (0 < n → self .got + n ≤ 257) ⌝ }
-        ensures { λ r. ⌜ r ≡ passedFrom self n ⌝ }
-    {
-        let wait = self.wait;
-        let doing = self.doing;
-        Link {
-            wait: wait,
-            got: self.got + n,
-            escape: self.escape,
-            doing: doing,
-            held: self.held,
-            stopped: self.stopped,
-        }
-    }
-
-    // The loop ended with this answer.
-    fn ended(self, answer: Answer, used: usize, noted: usize) -> Ran
-        ensures { λ r. ⌜ r ≡ endedFrom self answer used noted ⌝ }
-    {
-        Ran {
-            answer: answer,
-            used: used,
-            noted: noted,
-            link: self,
         }
     }
 
@@ -511,70 +409,4 @@ fn failure(number: u8, length: usize) -> Answer
         number: number,
         length: length,
     }
-}
-
-// Whether an answer ends the loop.
-fn ends(answer: Answer) -> bool
-    ensures { λ r. ⌜ r ≡ endsOf answer ⌝ }
-{
-    match answer {
-        Answer::More => false,
-        Answer::Character(_) => false,
-        Answer::Reply(_) => true,
-        Answer::EscapeState(_) => false,
-        Answer::Event { y: _, x: _, a: _ } => false,
-        Answer::Address {
-            b3: _,
-            b2: _,
-            b1: _,
-            b0: _,
-        } => false,
-        Answer::Error {
-            number: _,
-            length: _,
-        } => true,
-        Answer::Restart => true,
-        Answer::Refused(_) => true,
-    }
-}
-
-// Writes the note of an answer that is passed over, for which there is room; returns how many notes, one or none.
-fn put_note(answer: Answer, room: &mut [u8]) -> usize
-    requires { ⌜ 5 ≤ length (now room) ⌝ }
-    ensures { λ r. ⌜ Put (noteFor answer) (now (room .entry)) (now (room .exit)) (5 * r) ⌝ }
-{
-    match answer {
-        Answer::More => 0,
-        Answer::Character(b) => put_five(1, b, 0, 0, 0, room),
-        Answer::Reply(_) => 0,
-        Answer::EscapeState(on) => put_five(2, state_byte(on), 0, 0, 0, room),
-        Answer::Event { y, x, a } => put_five(3, y, x, a, 0, room),
-        Answer::Address { b3, b2, b1, b0 } => put_five(4, b3, b2, b1, b0, room),
-        Answer::Error {
-            number: _,
-            length: _,
-        } => 0,
-        Answer::Restart => 0,
-        Answer::Refused(_) => 0,
-    }
-}
-
-// The byte of an Escape state.
-fn state_byte(on: bool) -> u8
-    ensures { λ r. ⌜ r ≡ cond on 1 0 ⌝ }
-{
-    if on { 1 } else { 0 }
-}
-
-// Writes one note.
-fn put_five(kind: u8, first: u8, second: u8, third: u8, fourth: u8, room: &mut [u8]) -> usize
-    requires { ⌜ 5 ≤ length (now room) ⌝ }
-    ensures { λ r. ⌜ Put (kind ∷ first ∷ second ∷ third ∷ fourth ∷ []) (now (room .entry)) (now (room .exit)) (5 * r) ⌝ }
-{
-    room[0] = kind;
-    room[1] = first;
-    room[2] = second;
-    room[3] = third;
-    room[4] = fourth;
-    1
 }

@@ -9,7 +9,7 @@ use Rattle.serial_rules.proofs.Session.{layers-told, layers-after, weave}
 use Rattle.serial_rules.proofs.Actions.{actions-pass, error-ends-call}
 use Rattle.link.specs.declared.Link.{Link}
 use Rattle.link.specs.View.{viewOf}
-use Rattle.link.specs.Run.{Runs}
+use Rattle.link_loop.specs.Run.{Runs}
 use Rattle.replies.specs.Sessions.{Sessions, stop, took, began}
 
 pub record As-ruled (l : Link) (reply own : List ℕ) (s : List Input) (told : List Told) (q : Link) (reply-end own-end : List ℕ) : Type 0 where

@@ -1,9 +1,9 @@
 -- Each arm writes the note of that answer, or nothing.
 use Rattle.escape.proofs.Laws.{put-none}
-use Rattle.link.specs.Run.{noteOf}
+use Rattle.link_loop.specs.Run.{noteOf}
 use borrow.Author.Needs.{needs}
-use Rattle.link.proofs.put_note.Statement.{statement}
-use Rattle.link.proofs.put_note.Tie as tie
+use Rattle.link_loop.proofs.put_note.Statement.{statement}
+use Rattle.link_loop.proofs.put_note.Tie as tie
 
 returns : tie.Need-returns
 unfolding noteOf

@@ -5,13 +5,13 @@ use native.Mathlib.Omega.{arith}
 use mathlib.Core.Path.{refl, sym, _∙_}
 use lib.ListN.{length, take, length-take, length-drop}
 use Rattle.escape.proofs.Laws.{put-length}
-use Rattle.link.specs.Run.{passes}
-use Rattle.link.proofs.Notes.{ends-lent, Passing, skips, skip-within, nothing, note-short, no-room, all-read, one-more, ended}
-use Rattle.link.proofs.Plains.{still-usable}
+use Rattle.link_loop.specs.Run.{passes}
+use Rattle.link_loop.proofs.Notes.{ends-lent, Passing, skips, skip-within, nothing, note-short, no-room, all-read, one-more, ended}
+use Rattle.link_loop.proofs.Plains.{still-usable}
 use borrow.Author.Tests.{not-false}
 use borrow.Author.Needs.{needs}
-use Rattle.link.proofs.Link.run.Statement.{statement}
-use Rattle.link.proofs.Link.run.Tie as tie
+use Rattle.link_loop.proofs.run.Statement.{statement}
+use Rattle.link_loop.proofs.run.Tie as tie
 
 abbrev Inv-loop : tie.InvT-loop
 Inv-loop raw reply₀ own₀ room₀ at₀ i₀ noted₀ reply own room at i noted =

@@ -2,10 +2,10 @@
 use denote.Ref.{now}
 use native.Mathlib.Omega.{arith}
 use lib.ListN.{length-set}
-use Rattle.link.proofs.Notes.{set-five}
+use Rattle.link_loop.proofs.Notes.{set-five}
 use borrow.Author.Needs.{needs}
-use Rattle.link.proofs.put_five.Statement.{statement}
-use Rattle.link.proofs.put_five.Tie as tie
+use Rattle.link_loop.proofs.put_five.Statement.{statement}
+use Rattle.link_loop.proofs.put_five.Tie as tie
 
 slice-write-room-2 : tie.Need-slice-write-room-2
 slice-write-room-2 c = simp length-set (omega arith)

@@ -1,13 +1,13 @@
 -- With an escape seen, an action open or nothing waiting no byte is passed over; else it is the reply's turn.
 use denote.Ref.{now}
-use Rattle.link.proofs.Plains.{passes-none}
+use Rattle.link_loop.proofs.Plains.{passes-none}
 use borrow.Author.Needs.{needs}
 use borrow.Author.Tests.{not-true}
-use Rattle.link.proofs.Link.pass.Statement.{statement}
-use Rattle.link.proofs.Link.pass.Tie as tie
+use Rattle.link_loop.proofs.pass.Statement.{statement}
+use Rattle.link_loop.proofs.pass.Tie as tie
 
 returns : tie.Need-returns
-returns c = let a = c .before .before .before .args in passes-none (a .self) (now (a .reply)) (now (a .raw))
+returns c = let a = c .before .before .before .args in passes-none (a .link) (now (a .reply)) (now (a .raw))
 
 pass-reply-requires : tie.Need-pass-reply-requires
 pass-reply-requires c κs =
@@ -16,10 +16,10 @@ pass-reply-requires c κs =
     (s .pre .0, q .before .before .if1 .left, q .enum-told2 .given .1, c .before .before .wait .given .1, search needs)
 
 returns-2 : tie.Need-returns-2
-returns-2 c = let a = c .before .before .before .before .before .args in passes-none (a .self) (now (a .reply)) (now (a .raw))
+returns-2 c = let a = c .before .before .before .before .before .args in passes-none (a .link) (now (a .reply)) (now (a .raw))
 
 returns-3 : tie.Need-returns-3
-returns-3 c = let a = c .before .before .before .before .before .before .before .args in passes-none (a .self) (now (a .reply)) (now (a .raw))
+returns-3 c = let a = c .before .before .before .before .before .before .before .args in passes-none (a .link) (now (a .reply)) (now (a .raw))
 
 returns-4 : tie.Need-returns-4
 returns-4 c = c .before .before .pass-reply .ensures

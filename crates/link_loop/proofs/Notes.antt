@@ -11,14 +11,14 @@ use borrow.Author.Tests.{not-true, not-false}
 use Rattle.escape.specs.Put.{Put}
 use Rattle.escape.proofs.Laws.{put-none, put-tail}
 use Rattle.serial_rules.specs.Link as rules
 use Rattle.link.specs.declared.Link.{Link}
 use Rattle.link.specs.declared.Answer.{Answer}
 use Rattle.link.specs.declared.Answer.the-variants as variant
 use Rattle.link.specs.declared.Stepped.{Stepped}
-use Rattle.link.specs.declared.Ran.{Ran}
+use Rattle.link_loop.specs.declared.Ran.{Ran}
 use Rattle.link.specs.View.{reportOf, Step-done}
-use Rattle.link.specs.Run.{Runs, stop, took, passes, Passed, none, next, noteOf, notes, lastOf, Ran-done, Run-done}
-use Rattle.link.specs.Parts.{endedFrom, endsOf, noteFor, passedFrom, Pass-done}
+use Rattle.link_loop.specs.Run.{Runs, stop, took, passes, Passed, none, next, noteOf, notes, lastOf, Ran-done, Run-done}
+use Rattle.link_loop.specs.Parts.{endedFrom, endsOf, noteFor, passedFrom, Pass-done}
 
 -- five bytes stored at the start
 pub set-five : (out : List ℕ) (a b c d e : ℕ) → 5 ≤ length out

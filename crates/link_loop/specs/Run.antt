@@ -6,12 +6,12 @@ use mathlib.Core.List.{List, [], _∷_, _++_}
 use lib.ListN.{length, take}
 use Rattle.escape.specs.Put.{over}
 use Rattle.serial_rules.specs.Link as rules
 use Rattle.link.specs.declared.Link.{Link}
 use Rattle.link.specs.declared.Answer.{Answer}
 use Rattle.link.specs.declared.Answer.the-variants as variant
 use Rattle.link.specs.declared.Stepped.{Stepped}
-use Rattle.link.specs.declared.Ran.{Ran}
+use Rattle.link_loop.specs.declared.Ran.{Ran}
 use Rattle.link.specs.View.{reportOf, Step-done}
 
 -- from a link and its lent bytes, over raw bytes, with the reports, to the link and the lent bytes left
 pub data Runs : Link → List ℕ → List ℕ → List ℕ → List rules.Report → Link → List ℕ → List ℕ → Type 0 where

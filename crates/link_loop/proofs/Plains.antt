@@ -19,17 +19,17 @@ use Rattle.kind.specs.Kinds.{kindFor}
 use Rattle.kind.specs.Ahead.{aheadOf}
 use Rattle.kind.specs.declared.CallKind.{CallKind}
 use Rattle.kind.proofs.Ahead.{ahead-more, ahead-fits}
 use Rattle.link.specs.declared.Wait.{Wait}
 use Rattle.link.specs.declared.Wait.the-variants.{Waiting}
 use Rattle.link.specs.declared.Doing.{Doing}
 use Rattle.link.specs.declared.Doing.the-variants.{Quiet}
 use Rattle.link.specs.declared.Link.{Link}
 use Rattle.link.specs.declared.Answer.the-variants as variant
 use Rattle.link.specs.declared.Stepped.{Stepped}
 use Rattle.link.specs.View.{replyRoom, ownRoom, usableOf, viewOf, reportOf, Step-done}
-use Rattle.link.specs.Run.{Runs, stop, took, passes}
-use Rattle.link.specs.Parts.{passedFrom, Pass-done}
+use Rattle.link_loop.specs.Run.{Runs, stop, took, passes}
+use Rattle.link_loop.specs.Parts.{passedFrom, Pass-done}
 use Rattle.link.proofs.Steps.{usable-live, usable-got, usable-held, reply-more, data-outside, at-data}
 
 -- a plain byte is data in itself
 data-in-itself : (b : ℕ) → plain b ≡ true → pieceOf false b ≡ dataByte b

@@ -1,8 +1,8 @@
 -- Each arm is the rule at that answer.
-use Rattle.link.specs.Run.{passes}
+use Rattle.link_loop.specs.Run.{passes}
 use borrow.Author.Needs.{needs}
-use Rattle.link.proofs.ends.Statement.{statement}
-use Rattle.link.proofs.ends.Tie as tie
+use Rattle.link_loop.proofs.ends.Statement.{statement}
+use Rattle.link_loop.proofs.ends.Tie as tie
 
 returns : tie.Need-returns
 unfolding passes
