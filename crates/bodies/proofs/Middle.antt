@@ -2,21 +2,26 @@
 use Prim.Native.Nat.{ℕ, _+_, _-_, _≤_, _<_}
 use native.Mathlib.Omega.{arith}
 use mathlib.Core.Path.{_≡_, refl, _∙_}
-use mathlib.Core.Bool.{true, false}
+use mathlib.Core.Bool.{Bool, true, false, cond}
 use mathlib.Core.List.{List, [], _∷_, _++_, append-assoc, append-nil}
-use lib.Dec.{eqb}
+use lib.Dec.{eqb, ltb}
 use lib.ListN.{length, getD, drop, length-append, List·getD-append}
 use lib.Seq.{drop-append-le, getD-append-seam}
-use borrow.Author.Tests.{lt-ltb, le-ltb, ne-eqb}
+use borrow.Author.Tests.{lt-ltb, le-ltb, ltb-true, ltb-false, ne-eqb, eqb-true, eqb-false}
 use Rattle.serial_rules.specs.Call.{return}
 use Rattle.serial_rules.specs.Body.{more, stringTurn, fixedTurn, nameTurn, ended, bodyTurn, longestBody}
 use Rattle.turns.specs.Plain.{plain, Plains, none, one}
 use Rattle.turns.proofs.Plain.{no-return}
-use Rattle.bodies.specs.Ahead.{Ahead-done}
+use Rattle.bodies.specs.Ahead.{wordAhead, findAhead, fileAhead, aheadIn}
 use Rattle.bodies.proofs.Bytes.{word-rest, find-rest, ended-last}
 
+-- Behind the bytes s of a body of this code n more plain bytes need more, and leave the count below the code's longest body.
+pub record Ahead-done (code : ℕ) (s : List ℕ) (n : ℕ) : Type 0 where
+  pub fits : length s < longestBody code → length s + n < longestBody code
+  pub needs : (xs : List ℕ) (b : ℕ) → Plains xs → plain b ≡ true → length xs < n → bodyTurn code (s ++ xs) b ≡ more
+
 -- no byte at all
-pub ahead-none : (code : ℕ) (s : List ℕ) {n : ℕ} → n ≡ 0 → Ahead-done code s n
+ahead-none : (code : ℕ) (s : List ℕ) {n : ℕ} → n ≡ 0 → Ahead-done code s n
 ahead-none code s e = record { fits = λ h. omega arith; needs = λ xs b ps p h. absurd (omega arith) }
 
 -- a turn of a fixed number of bytes, and one of a string, for which there is room
@@ -31,26 +36,26 @@ name-goes n b h p = rw (no-return b p, lt-ltb n 255 h)
 
 -- so many bytes
 module _ (code last : ℕ) (turns : (s : List ℕ) (b : ℕ) → bodyTurn code s b ≡ fixedTurn (length s) last) (longest : longestBody code ≡ last + 1) where
-  pub ahead-fixed : (s : List ℕ) {n : ℕ} → n ≡ last - length s → Ahead-done code s n
+  ahead-fixed : (s : List ℕ) {n : ℕ} → n ≡ last - length s → Ahead-done code s n
   ahead-fixed s {n} e = record {
     fits = λ h. rw longest (omega (arith, rw longest at h));
     needs = λ xs b ps p h. let k = length-append s xs in turns (s ++ xs) b ∙ fixed-goes (length (s ++ xs)) last (omega arith);
   }
 
-pub ahead-0A : (s : List ℕ) {n : ℕ} → n ≡ 4 - length s → Ahead-done 0x0A s n
+ahead-0A : (s : List ℕ) {n : ℕ} → n ≡ 4 - length s → Ahead-done 0x0A s n
 unfolding bodyTurn longestBody
 ahead-0A = ahead-fixed 0x0A 4 (λ s b. refl) refl
 
-pub ahead-0C : (s : List ℕ) {n : ℕ} → n ≡ 5 - length s → Ahead-done 0x0C s n
+ahead-0C : (s : List ℕ) {n : ℕ} → n ≡ 5 - length s → Ahead-done 0x0C s n
 unfolding bodyTurn longestBody
 ahead-0C = ahead-fixed 0x0C 5 (λ s b. refl) refl
 
-pub ahead-16 : (s : List ℕ) {n : ℕ} → n ≡ 13 - length s → Ahead-done 0x16 s n
+ahead-16 : (s : List ℕ) {n : ℕ} → n ≡ 13 - length s → Ahead-done 0x16 s n
 unfolding bodyTurn longestBody
 ahead-16 = ahead-fixed 0x16 13 (λ s b. refl) refl
 
 -- a string that is the whole body
-pub ahead-02 : (s : List ℕ) {n : ℕ} → n ≡ 255 - length s → Ahead-done 0x02 s n
+ahead-02 : (s : List ℕ) {n : ℕ} → n ≡ 255 - length s → Ahead-done 0x02 s n
 unfolding bodyTurn longestBody
 ahead-02 s {n} e = record {
   fits = λ h. omega arith;
@@ -58,7 +63,7 @@ ahead-02 s {n} e = record {
 }
 
 -- OSWORD's block
-pub ahead-08 : (s : List ℕ) {n : ℕ} → 2 ≤ length s → getD s 1 0 < 256 → n ≡ getD s 1 0 - (length s - 2) → Ahead-done 0x08 s n
+ahead-08 : (s : List ℕ) {n : ℕ} → 2 ≤ length s → getD s 1 0 < 256 → n ≡ getD s 1 0 - (length s - 2) → Ahead-done 0x08 s n
 unfolding bodyTurn longestBody
 ahead-08 s {n} two byte e = record {
   fits = λ h. omega arith;
@@ -69,7 +74,7 @@ ahead-08 s {n} two byte e = record {
 }
 
 -- the string of an OSFIND that opens
-pub ahead-12 : (s : List ℕ) {n : ℕ} → 1 ≤ length s → (getD s 0 0 ≡ 0 → ⊥) → n ≡ 256 - length s → Ahead-done 0x12 s n
+ahead-12 : (s : List ℕ) {n : ℕ} → 1 ≤ length s → (getD s 0 0 ≡ 0 → ⊥) → n ≡ 256 - length s → Ahead-done 0x12 s n
 unfolding bodyTurn longestBody
 ahead-12 s {n} some opens e = record {
   fits = λ h. omega arith;
@@ -80,7 +85,7 @@ ahead-12 s {n} some opens e = record {
 }
 
 -- OSFILE's block
-pub ahead-block : (s : List ℕ) {n : ℕ} → n ≡ 16 - length s → length s < 16 → Ahead-done 0x14 s n
+ahead-block : (s : List ℕ) {n : ℕ} → n ≡ 16 - length s → length s < 16 → Ahead-done 0x14 s n
 unfolding bodyTurn longestBody
 ahead-block s {n} e short = record {
   fits = λ h. omega arith;
@@ -98,7 +103,7 @@ not-ended : (l xs : List ℕ) → Plains xs → ended l ≡ false → ended (l +
 not-ended l [] none h = rw (append-nil l) h
 not-ended l (x ∷ xs) (one p ps) h = rw append-assoc at (not-ended (l ++ (x ∷ [])) xs ps (ended-snoc l x ∙ no-return x p))
 
-pub ahead-name : (s : List ℕ) {n : ℕ} → n ≡ 271 - length s → 16 ≤ length s → ended (drop 16 s) ≡ false → Ahead-done 0x14 s n
+ahead-name : (s : List ℕ) {n : ℕ} → n ≡ 271 - length s → 16 ≤ length s → ended (drop 16 s) ≡ false → Ahead-done 0x14 s n
 unfolding bodyTurn longestBody
 ahead-name s {n} e long goes = record {
   fits = λ h. omega arith;
@@ -107,3 +112,37 @@ ahead-name s {n} e long goes = record {
       rw (le-ltb (length (s ++ xs)) 16 (omega arith), drop-append-le 16 s xs long, not-ended (drop 16 s) xs ps goes)
       (name-goes (length (s ++ xs) - 16) b (omega arith) p);
 }
+
+-- what holds on both sides holds of the choice
+pick : {code : ℕ} {s : List ℕ} (t : Bool) {m n : ℕ} → (t ≡ true → Ahead-done code s m) → (t ≡ false → Ahead-done code s n) → Ahead-done code s (cond t m n)
+pick true f g = f refl
+pick false f g = g refl
+
+word-holds : (s : List ℕ) → (2 ≤ length s → getD s 1 0 < 256) → Ahead-done 0x08 s (wordAhead s)
+word-holds s byte =
+    pick (ltb (length s) 2) (λ _. ahead-none 0x08 s refl)
+    (λ e. let two = ltb-false (length s) 2 e in ahead-08 s two (byte two) refl)
+
+find-holds : (s : List ℕ) → Ahead-done 0x12 s (findAhead s)
+find-holds s =
+    pick (eqb (length s) 0) (λ _. ahead-none 0x12 s refl)
+    (λ e. pick (eqb (getD s 0 0) 0) (λ _. ahead-none 0x12 s refl)
+    (λ f. let some = eqb-false (length s) 0 e in ahead-12 s (omega arith) (eqb-false (getD s 0 0) 0 f) refl))
+
+file-holds : (s : List ℕ) → Ahead-done 0x14 s (fileAhead s)
+file-holds s =
+    pick (ltb (length s) 16) (λ e. ahead-block s refl (ltb-true (length s) 16 e))
+    (λ e. pick (ended (drop 16 s)) (λ _. ahead-none 0x14 s refl) (λ f. ahead-name s refl (ltb-false (length s) 16 e) f))
+
+-- the bytes ahead need more, whatever the code
+pub ahead-holds : (code : ℕ) (s : List ℕ) → (2 ≤ length s → getD s 1 0 < 256) → Ahead-done code s (aheadIn code s)
+unfolding aheadIn
+ahead-holds code s byte =
+    pick (eqb code 0x02) (λ e. rw (eqb-true code 0x02 e) (ahead-02 s refl))
+    (λ _. pick (eqb code 0x08) (λ e. rw (eqb-true code 0x08 e) (word-holds s byte))
+    (λ _. pick (eqb code 0x0A) (λ e. rw (eqb-true code 0x0A e) (ahead-0A s refl))
+    (λ _. pick (eqb code 0x0C) (λ e. rw (eqb-true code 0x0C e) (ahead-0C s refl))
+    (λ _. pick (eqb code 0x12) (λ e. rw (eqb-true code 0x12 e) (find-holds s))
+    (λ _. pick (eqb code 0x14) (λ e. rw (eqb-true code 0x14 e) (file-holds s))
+    (λ _. pick (eqb code 0x16) (λ e. rw (eqb-true code 0x16 e) (ahead-16 s refl))
+    (λ _. ahead-none code s refl)))))))

@@ -1,13 +1,29 @@
 -- Bytes in the middle of a field of a body.
-use Prim.Native.Nat.{ℕ, _+_, _<_}
-use mathlib.Core.Path.{_≡_}
-use mathlib.Core.Bool.{true}
-use mathlib.Core.List.{List, _++_}
-use lib.ListN.{length}
-use Rattle.serial_rules.specs.Body.{more, bodyTurn, longestBody}
-use Rattle.turns.specs.Plain.{plain, Plains}
+use Prim.Native.Nat.{ℕ, _-_}
+use mathlib.Core.Bool.{cond}
+use mathlib.Core.List.{List}
+use lib.Dec.{eqb, ltb}
+use lib.ListN.{length, getD, drop}
+use Rattle.serial_rules.specs.Body.{ended}
 
--- Behind the bytes s of a body of this code n more plain bytes need more, and leave the count below the code's longest body.
-pub record Ahead-done (code : ℕ) (s : List ℕ) (n : ℕ) : Type 0 where
-  pub fits : length s < longestBody code → length s + n < longestBody code
-  pub needs : (xs : List ℕ) (b : ℕ) → Plains xs → plain b ≡ true → length xs < n → bodyTurn code (s ++ xs) b ≡ more
+-- How many bytes behind the bytes s of a body need more, so long as they are plain (crate turns): up to the last byte of a block, to the place
+-- where only a return may stand in a string, and to the name in OSFILE's block. Where a field of one byte comes next, none.
+abbrev pub wordAhead : List ℕ → ℕ
+wordAhead s = cond (ltb (length s) 2) 0 (getD s 1 0 - (length s - 2))
+
+abbrev pub findAhead : List ℕ → ℕ
+findAhead s = cond (eqb (length s) 0) 0 (cond (eqb (getD s 0 0) 0) 0 (256 - length s))
+
+abbrev pub fileAhead : List ℕ → ℕ
+fileAhead s = cond (ltb (length s) 16) (16 - length s) (cond (ended (drop 16 s)) 0 (271 - length s))
+
+unfoldable pub aheadIn : ℕ → List ℕ → ℕ
+aheadIn code s =
+    cond (eqb code 0x02) (255 - length s)
+    (cond (eqb code 0x08) (wordAhead s)
+    (cond (eqb code 0x0A) (4 - length s)
+    (cond (eqb code 0x0C) (5 - length s)
+    (cond (eqb code 0x12) (findAhead s)
+    (cond (eqb code 0x14) (fileAhead s)
+    (cond (eqb code 0x16) (13 - length s)
+    0))))))

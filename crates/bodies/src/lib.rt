@@ -5,7 +5,7 @@ ghost use Prim.Native.Nat.{_-_};
 ghost use mathlib.Core.Path.{_≡_};
 ghost use Rattle.serial_rules.specs.Body.{checkedTurn, wordTurn, findTurn, nameTurn, ended, fileTurn, bodyTurn, longestBody};
 ghost use Rattle.turns.specs.Turns.{turnOf};
-ghost use Rattle.bodies.specs.Ahead.{Ahead-done};
+ghost use Rattle.bodies.specs.Ahead.{wordAhead, findAhead, fileAhead, aheadIn};
 
 // A byte of a body whose last byte has the index `last` and has to pass a test.
 fn checked_turn(n: usize, last: usize, ok: bool) -> Turn
@@ -114,9 +114,9 @@ pub fn body_turn(code: u8, s: &[u8], b: u8) -> Turn
     }
 }
 
-// How many bytes behind s need more, whatever they are but an escape or a return.
+// How many bytes behind s stand in the middle of their field: they need more, whatever they are but an escape or a return.
 pub fn ahead(code: u8, s: &[u8]) -> usize
-    ensures { λ r. ⌜ Ahead-done code (now (s .entry)) r ⌝ }
+    ensures { λ r. ⌜ r ≡ aheadIn code (now (s .entry)) ⌝ }
 {
     let n = s.len();
     match code {
@@ -143,7 +143,7 @@ fn up_to(n: usize, last: usize) -> usize
 
 // In OSWORD's block.
 fn word_ahead(s: &[u8]) -> usize
-    ensures { λ r. ⌜ Ahead-done 8 (now (s .entry)) r ⌝ }
+    ensures { λ r. ⌜ r ≡ wordAhead (now (s .entry)) ⌝ }
 {
     let n = s.len();
     if n < 2 {
@@ -155,7 +155,7 @@ fn word_ahead(s: &[u8]) -> usize
 
 // In the string of an OSFIND that opens.
 fn find_ahead(s: &[u8]) -> usize
-    ensures { λ r. ⌜ Ahead-done 18 (now (s .entry)) r ⌝ }
+    ensures { λ r. ⌜ r ≡ findAhead (now (s .entry)) ⌝ }
 {
     let n = s.len();
     if n == 0 {
@@ -169,7 +169,7 @@ fn find_ahead(s: &[u8]) -> usize
 
 // In OSFILE's block, and in its name.
 fn file_ahead(s: &[u8]) -> usize
-    ensures { λ r. ⌜ Ahead-done 20 (now (s .entry)) r ⌝ }
+    ensures { λ r. ⌜ r ≡ fileAhead (now (s .entry)) ⌝ }
 {
     let n = s.len();
     if n < 16 {

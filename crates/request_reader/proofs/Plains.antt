@@ -7,8 +7,8 @@ use mathlib.Core.Path.{_≡_, refl, sym, ap, subst, _∙_}
 use mathlib.Core.Bool.{Bool, true, false, cond}
 use mathlib.Core.List.{List, [], _∷_, _++_, append-assoc, append-nil}
 use lib.Dec.{eqb}
-use lib.ListN.{length, take, drop, set, replicate, length-append, length-drop, length-set}
-use lib.Seq.{length-take-le, sets}
+use lib.ListN.{length, getD, take, drop, set, replicate, length-append, length-drop, length-set}
+use lib.Seq.{length-take-le, getD-take, sets}
 use borrow.Author.Tests.{lt-ltb}
 use Rattle.serial_rules.specs.Escape.{Piece, pending, dataByte, mark}
 use Rattle.serial_rules.specs.Marks.{styleOf, codeIn}
@@ -23,7 +23,8 @@ use Rattle.request_reader.specs.declared.Reader.{Reader}
 use Rattle.request_reader.specs.declared.Answer.the-variants.{More}
 use Rattle.request_reader.specs.declared.Stepped.{Stepped}
 use Rattle.request_reader.specs.View.{carrierOf, within, viewOf, answerOf, Step-done}
-use Rattle.bodies.specs.Ahead.{Ahead-done}
+use Rattle.bodies.specs.Ahead.{aheadIn}
+use Rattle.bodies.proofs.Middle.{Ahead-done, ahead-holds}
 use Rattle.request_reader.specs.Read.{Read, stop, took}
 use Rattle.request_reader.specs.Pass.{passedFrom, Pass-done}
 use Rattle.request_reader.proofs.Limits.{longest-fits}
@@ -97,6 +98,15 @@ module _ (r : Reader) (inside : r .phase ≡ Inside) (ok : within r ≡ true) (s
             (rw (there, part-sets lent (r .count) size (omega arith) d)
             (rw m at (mid-steps r ok (take (r .count) lent) [] (take n raw) most (r .count) lent a (omega arith) (sym (append-nil (take (r .count) lent))) (omega arith) none (done-plains d) (omega arith) (omega arith))));
       }
+
+-- what the body's bytes ahead are, of the bytes lent
+pub ahead-of : (r : Reader) (lent : List ℕ) {n : ℕ} → within r ≡ true → length lent ≡ 273 → getD lent 1 0 < 256 → n ≡ aheadIn (r .code) (take (r .count) lent)
+    → Ahead-done (r .code) (take (r .count) lent) n
+ahead-of r lent ok whole byte e =
+    let top = longest-fits (r .code) in
+    let count = within-count r ok in
+    let s : length (take (r .count) lent) ≡ r .count = length-take-le (r .count) lent (omega arith) in
+    rw e (ahead-holds (r .code) (take (r .count) lent) (λ two. omega (arith, getD-take (r .count) lent 1 0 (omega arith))))
 
 pub end-fits : (r : Reader) (lent : List ℕ) (most : ℕ) → within r ≡ true → length lent ≡ 273 → Ahead-done (r .code) (take (r .count) lent) most → r .count + most ≤ 273
 end-fits r lent most ok whole a =

@@ -112,7 +112,7 @@ pub extern "C" fn tube_run(
     flat_link::run(link, raw, reply, own, room)
 }
 
-// One raw byte, as a slice: so `Link::run` stays the one caller of `Link::step`, and `tube_run` of it, which is what makes them fast
+// One raw byte, as a slice: so `link_loop::run` stays the one caller of `Link::step`, and `tube_run` of it, which is what makes them fast
 // (docs/DECISIONS.md, 'Speed'). Where the loop wrote a note, that is the answer: the notes' kinds are the answers' own.
 #[no_mangle]
 pub extern "C" fn tube_link_step(

@@ -5,7 +5,7 @@ use native.Mathlib.Omega.{arith}
 use mathlib.Core.Path.{sym}
 use lib.Seq.{length-take-le}
 use Rattle.request_reader.proofs.Steps.{within-room}
-use Rattle.request_reader.proofs.Plains.{passes-plain, end-fits}
+use Rattle.request_reader.proofs.Plains.{ahead-of, passes-plain, end-fits}
 use borrow.Author.Needs.{needs}
 use Rattle.request_reader.proofs.Reader.pass_body.Statement.{statement}
 use Rattle.request_reader.proofs.Reader.pass_body.Tie as tie
@@ -22,19 +22,22 @@ slice-aggregate-ahead c =
 add-end : tie.Need-add-end
 add-end c =
     let s = c .before .before .before .before in
-    omega (arith, end-fits (s .args .self) (now (s .args .body)) (c .ahead .result) (s .pre .1) (s .pre .3) (c .ahead .ensures))
+    let a = ahead-of (s .args .self) (now (s .args .body)) (s .pre .1) (s .pre .3) (omega (arith, c .before .before .slice-known .given 1)) (c .ahead .ensures) in
+    omega (arith, end-fits (s .args .self) (now (s .args .body)) (c .ahead .result) (s .pre .1) (s .pre .3) a)
 
 part-copy-plain-end : tie.Need-part-copy-plain-end
 part-copy-plain-end c =
     let s = c .before .before .before .before in
-    omega (arith, s .pre .3, end-fits (s .args .self) (now (s .args .body)) (c .ahead .result) (s .pre .1) (s .pre .3) (c .ahead .ensures))
+    let a = ahead-of (s .args .self) (now (s .args .body)) (s .pre .1) (s .pre .3) (omega (arith, c .before .before .slice-known .given 1)) (c .ahead .ensures) in
+    omega (arith, s .pre .3, end-fits (s .args .self) (now (s .args .body)) (c .ahead .result) (s .pre .1) (s .pre .3) a)
 
 returns : tie.Need-returns
 returns c =
     let q = c .before .before .before .before in
     let s = q .before .before .before .before in
     let n = q .ahead .result in
-    passes-plain (s .args .self) (s .pre .0) (s .pre .1) (s .pre .2) (now (s .args .body)) n (s .args .self .count + n - s .args .self .count) (q .ahead .ensures) (omega arith) (s .pre .3)
+    let a = ahead-of (s .args .self) (now (s .args .body)) (s .pre .1) (s .pre .3) (omega (arith, q .before .before .slice-known .given 1)) (q .ahead .ensures) in
+    passes-plain (s .args .self) (s .pre .0) (s .pre .1) (s .pre .2) (now (s .args .body)) n (s .args .self .count + n - s .args .self .count) a (omega arith) (s .pre .3)
     (c .before .before .copy-plain .ensures)
 
 pub pass-body-spec : {M : Type 1} → statement M
