@@ -1,9 +1,10 @@
 -- Bytes in the middle of a field of a body.
-use Prim.Native.Nat.{ℕ, _-_}
+use Prim.Native.Nat.{ℕ, _+_, _-_}
 use mathlib.Core.Bool.{cond}
 use mathlib.Core.List.{List}
 use lib.Dec.{eqb, ltb}
 use lib.ListN.{length, getD, drop}
+use Rattle.serial_rules.specs.Call.{stringLimit}
 use Rattle.serial_rules.specs.Body.{ended}
 
 -- How many bytes behind the bytes s of a body need more, so long as they are plain (crate turns): up to the last byte of a block, to the place
@@ -12,14 +13,14 @@ abbrev pub wordAhead : List ℕ → ℕ
 wordAhead s = cond (ltb (length s) 2) 0 (getD s 1 0 - (length s - 2))
 
 abbrev pub findAhead : List ℕ → ℕ
-findAhead s = cond (eqb (length s) 0) 0 (cond (eqb (getD s 0 0) 0) 0 (256 - length s))
+findAhead s = cond (eqb (length s) 0) 0 (cond (eqb (getD s 0 0) 0) 0 (stringLimit + 1 - length s))
 
 abbrev pub fileAhead : List ℕ → ℕ
-fileAhead s = cond (ltb (length s) 16) (16 - length s) (cond (ended (drop 16 s)) 0 (271 - length s))
+fileAhead s = cond (ltb (length s) 16) (16 - length s) (cond (ended (drop 16 s)) 0 (stringLimit + 16 - length s))
 
 unfoldable pub aheadIn : ℕ → List ℕ → ℕ
 aheadIn code s =
-    cond (eqb code 0x02) (255 - length s)
+    cond (eqb code 0x02) (stringLimit - length s)
     (cond (eqb code 0x08) (wordAhead s)
     (cond (eqb code 0x0A) (4 - length s)
     (cond (eqb code 0x0C) (5 - length s)

@@ -120,7 +120,7 @@ pub fn ahead(code: u8, s: &[u8]) -> usize
 {
     let n = s.len();
     match code {
-        0x02 => up_to(n, 255),
+        0x02 => up_to(n, Text::LIMIT),
         0x08 => word_ahead(s),
         0x0A => up_to(n, 4),
         0x0C => up_to(n, 5),
@@ -164,7 +164,7 @@ fn find_ahead(s: &[u8]) -> usize
     if s[0] == 0 {
         return 0;
     }
-    up_to(n, 256)
+    up_to(n, Text::LIMIT + 1)
 }
 
 // In OSFILE's block, and in its name.
@@ -178,7 +178,7 @@ fn file_ahead(s: &[u8]) -> usize
     if name_ended(&s[16..]) {
         return 0;
     }
-    up_to(n, 271)
+    up_to(n, Text::LIMIT + 16)
 }
 
 // The length of the longest body of a code; 0 for a code without a body. OSFILE's is the longest of all: 16 bytes, a string of 255, its

@@ -15,4 +15,4 @@ returns-3 : tie.Need-returns-3
 returns-3 c = c .up-to .ensures ∙ simp (ne-eqb _ _ (c .before .before .before .if1 .left), ne-eqb _ _ (c .before .if2 .left))
 
 pub find-ahead-spec : {M : Type 1} → statement M
-find-ahead-spec = tie.close (tie.spec returns (λ c. search needs) returns-2 (λ c κs. search needs) returns-3)
+find-ahead-spec = tie.close (tie.spec returns (λ c. search needs) returns-2 (λ c. search needs) (λ c κs. search needs) returns-3)
