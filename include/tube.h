@@ -70,15 +70,18 @@ enum {
 enum { TUBE_HOST_IRQ = 1, TUBE_PARASITE_IRQ = 2, TUBE_PARASITE_NMI = 4, TUBE_PARASITE_RESET = 8 };
 
 /* A chip record. Channels are numbered register by register, host-to-parasite first: 0 is host-to-parasite R1, 1 parasite-to-host R1, ..,
- * 7 parasite-to-host R4. The bytes of channel c start at tube_start[c] of `bytes`, oldest first, and held[c] counts them; it must not be
- * above tube_capacity[c]. The flags P V M J I Q are bits 5 to 0 of `flags`; its bits 7 and 6, and bytes that are not held, stand for nothing. */
+ * 7 parasite-to-host R4. Byte c of a word, TUBE_BYTE(word, c), is bits 8c to 8c + 7. The flags P V M J I Q are bits 5 to 0 of `flags`; the bits
+ * above them, and bytes that are not held, stand for nothing. */
 typedef struct {
-    uint8_t bytes[24];
-    uint8_t held[8];
-    uint8_t flags;
+    uint64_t oldest; /* byte c: the oldest byte of channel c */
+    uint64_t next;   /* byte c: the one behind it */
+    uint64_t later;  /* bytes 0 to 7: the third to the tenth byte of parasite-to-host R1 */
+    uint64_t held;   /* byte c: how many bytes channel c holds; it must not be above tube_capacity[c] */
+    uint64_t flags;
 } TubeChip;
 
-static const uint8_t tube_start[8] = {0, 9, 1, 2, 3, 5, 7, 8};
+#define TUBE_BYTE(word, c) ((uint8_t)((word) >> (8 * (c))))
+
 static const uint8_t tube_capacity[8] = {1, 10, 1, 1, 2, 2, 1, 1};
 
 typedef struct {

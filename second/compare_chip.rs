@@ -8,32 +8,46 @@ use crate::random::Random;
 use crate::report::{Report, Row};
 use crate::tube::{self, Tube};
 
-/// Where each channel's bytes start in the library's record, and its places.
-const START: [usize; 8] = [0, 9, 1, 2, 3, 5, 7, 8];
+/// Each channel's places, and how many of its bytes the library's record stores.
 const PLACES: [u8; 8] = [1, 10, 1, 1, 2, 2, 1, 1];
+const STORED: [usize; 8] = [2, 10, 2, 2, 2, 2, 2, 2];
 
-const FLAGS: u8 = 0x3F;
-const V: u8 = 0x10;
+const FLAGS: u64 = 0x3F;
+const V: u64 = 0x10;
 
 impl TubeChip {
-    fn channel(&self, channel: usize) -> &[u8] {
-        let places = PLACES[channel] as usize;
-        &self.bytes[START[channel]..START[channel] + places]
+    fn count(&self, channel: usize) -> u8 {
+        self.held.to_le_bytes()[channel]
+    }
+
+    /// The bytes stored of a channel, oldest first.
+    fn channel(&self, channel: usize) -> [u8; 10] {
+        let mut bytes = [0; 10];
+        bytes[0] = self.oldest.to_le_bytes()[channel];
+        bytes[1] = self.next.to_le_bytes()[channel];
+        if STORED[channel] > 2 {
+            bytes[2..].copy_from_slice(&self.later.to_le_bytes());
+        }
+        bytes
     }
 
     fn over_full(&self) -> bool {
-        (0..8).any(|channel| self.held[channel] > PLACES[channel])
+        (0..8).any(|channel| self.count(channel) > PLACES[channel])
     }
 
     fn to_second(self) -> Tube {
-        let parts = std::array::from_fn(|channel| (self.channel(channel), self.held[channel]));
-        Tube::from_parts(parts, self.flags)
+        let bytes: [[u8; 10]; 8] = std::array::from_fn(|channel| self.channel(channel));
+        let parts = std::array::from_fn(|channel| {
+            let places = PLACES[channel] as usize;
+            (&bytes[channel][..places], self.count(channel))
+        });
+        Tube::from_parts(parts, self.flags as u8)
     }
 
     fn same_state(&self, tube: &Tube) -> bool {
-        self.flags & FLAGS == tube.flags()
+        self.flags & FLAGS == tube.flags() as u64
             && (0..8).all(|channel| {
-                let held = self.held[channel];
+                let held = self.count(channel);
                 held == tube.count(channel)
                     && (held > PLACES[channel]
                         || self.channel(channel)[..held as usize] == *tube.held(channel))
@@ -43,8 +57,8 @@ impl TubeChip {
     /// Bytes that are not held are the same as in `before`.
     fn same_unheld(&self, before: &TubeChip) -> bool {
         (0..8).all(|channel| {
-            let held = self.held[channel].min(PLACES[channel]) as usize;
-            self.channel(channel)[held..] == before.channel(channel)[held..]
+            let unheld = self.count(channel).min(PLACES[channel]) as usize..STORED[channel];
+            self.channel(channel)[unheld.clone()] == before.channel(channel)[unheld]
         })
     }
 }
@@ -98,7 +112,7 @@ const PROPERTIES: [Row<Property>; 21] = [
     (Property::AccessState, "access: state after", ACCESSES),
     (Property::AccessRefused, "access: a refusal leaves the record", ACCESSES / 20),
     (Property::AccessUnheld, "access: bytes not held stay", ACCESSES),
-    (Property::AccessFlagBits, "access: flag bits 7 and 6 stay", ACCESSES),
+    (Property::AccessFlagBits, "access: bits above the flags stay", ACCESSES),
     (Property::New, "new: state and lines", 1),
     (Property::Reset, "reset: state and lines", RESETS),
     (Property::PlayResults, "play: results", SCRIPTS),
@@ -121,16 +135,11 @@ impl Random {
     /// A record with random bytes and flags, its counts within the places or,
     /// if `over_full`, at least one of them above.
     fn chip(&mut self, over_full: bool) -> TubeChip {
-        let mut chip = TubeChip {
-            bytes: [0; 24],
-            held: [0; 8],
-            flags: self.byte(),
-        };
-        self.fill(&mut chip.bytes);
+        let mut held = [0; 8];
         let style = self.below(8);
         for channel in 0..8 {
             let places = PLACES[channel];
-            chip.held[channel] = match style {
+            held[channel] = match style {
                 0 => 0,
                 1 => places,
                 _ => match self.below(4) {
@@ -145,7 +154,7 @@ impl Random {
             for channel in 0..8 {
                 if channel == certain || self.one_in(6) {
                     let above = PLACES[channel] + 1;
-                    chip.held[channel] = match self.below(4) {
+                    held[channel] = match self.below(4) {
                         0 | 1 => above,
                         2 => 255,
                         _ => self.at_least(above),
@@ -153,7 +162,20 @@ impl Random {
                 }
             }
         }
-        chip
+        TubeChip {
+            oldest: self.word(),
+            next: self.word(),
+            later: self.word(),
+            held: u64::from_le_bytes(held),
+            flags: self.word(),
+        }
+    }
+
+    /// A random word.
+    fn word(&mut self) -> u64 {
+        let mut bytes = [0; 8];
+        self.fill(&mut bytes);
+        u64::from_le_bytes(bytes)
     }
 }
 
@@ -250,7 +272,7 @@ impl Cases {
             return;
         }
         let register = 2 * (access.offset as usize / 2);
-        let (to_parasite, to_host) = (chip.held[register], chip.held[register + 1]);
+        let (to_parasite, to_host) = (chip.count(register), chip.count(register + 1));
         let (write, v) = (access.operation != 0, chip.flags & V != 0);
         let index = Cases::index(access.side, access.offset, write, v, to_parasite, to_host);
         self.0[index] = true;

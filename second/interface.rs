@@ -1,12 +1,15 @@
 //! The library's C interface, `include/tube.h`, as Rust declares it.
 
-/// A chip: the bytes of each channel, how many it holds, the flags.
+/// A chip: byte c of `oldest` and of `next` are the first bytes of channel c and
+/// byte c of `held` counts them; `later` has the rest of parasite-to-host R1's.
 #[repr(C)]
 #[derive(Clone, Copy, PartialEq, Debug)]
 pub struct TubeChip {
-    pub bytes: [u8; 24],
-    pub held: [u8; 8],
-    pub flags: u8,
+    pub oldest: u64,
+    pub next: u64,
+    pub later: u64,
+    pub held: u64,
+    pub flags: u64,
 }
 
 #[repr(C)]

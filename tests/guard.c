@@ -210,17 +210,18 @@ static TubeChip any_chip(void) {
     uint8_t *bytes = (uint8_t *)&chip;
     for (size_t i = 0; i < sizeof chip; i++)
         bytes[i] = byte();
+    uint8_t *held = (uint8_t *)&chip.held;
     if (below(4) > 0)
         for (int c = 0; c < 8; c++)
-            chip.held[c] = (uint8_t)below(tube_capacity[c] + 1u);
+            held[c] = (uint8_t)below(tube_capacity[c] + 1u);
     if (below(8) == 0)
-        chip.held[below(8)] = below(2) ? 11 : 255;
+        held[below(8)] = below(2) ? 11 : 255;
     return chip;
 }
 
 static int over_full(const TubeChip *chip) {
     for (int c = 0; c < 8; c++)
-        if (chip->held[c] > tube_capacity[c])
+        if (TUBE_BYTE(chip->held, c) > tube_capacity[c])
             return 1;
     return 0;
 }

@@ -41,9 +41,9 @@ static Lent one, two, three;
 #define AT(type, field, offset) (offsetof(type, field) == (offset))
 
 static void layout(void) {
-    expect("layout of the chip", sizeof(TubeChip) == 33 && AT(TubeChip, bytes, 0) && AT(TubeChip, held, 24) && AT(TubeChip, flags, 32)
+    expect("layout of the chip", sizeof(TubeChip) == 40 && AT(TubeChip, oldest, 0) && AT(TubeChip, next, 8) && AT(TubeChip, later, 16) && AT(TubeChip, held, 24) && AT(TubeChip, flags, 32)
                                      && sizeof(TubeReply) == 2 && AT(TubeReply, answer, 0) && AT(TubeReply, byte, 1));
-    expect("layout of the player", sizeof(TubePlayed) == 48 && AT(TubePlayed, played, 0) && AT(TubePlayed, answer, 8) && AT(TubePlayed, chip, 9));
+    expect("layout of the player", sizeof(TubePlayed) == 56 && AT(TubePlayed, played, 0) && AT(TubePlayed, answer, 8) && AT(TubePlayed, chip, 16));
     expect("layout of the reader", sizeof(TubeReader) == 16 && AT(TubeReader, count, 0) && AT(TubeReader, carrier, 8) && AT(TubeReader, phase, 9)
                                        && AT(TubeReader, escape, 10) && AT(TubeReader, style, 11) && AT(TubeReader, code, 12)
                                        && sizeof(TubeRead) == 32 && AT(TubeRead, reader, 0) && AT(TubeRead, length, 16) && AT(TubeRead, kind, 24)
@@ -72,18 +72,23 @@ static int answers(TubeReply r, uint8_t answer, uint8_t byte) {
     return r.answer == answer && r.byte == byte;
 }
 
+/* The counts of a record that holds `count` bytes in channel c. */
+static uint64_t holding(int c, uint64_t count) {
+    return count << (8 * c);
+}
+
 static void chip_made(void) {
     const TubeChip fresh = tube_new();
-    TubeChip nothing, full;
-    memset(&nothing, 0, sizeof nothing);
+    TubeChip full;
     memset(&full, 0xFF, sizeof full);
-    expect("tube_new: nothing held, no flag", memcmp(fresh.held, nothing.held, 8) == 0 && fresh.flags == 0);
+    expect("tube_new: nothing held, no flag", fresh.held == 0 && fresh.flags == 0);
     expect("tube_reset: any record becomes a fresh one", same_chip(tube_reset(full), fresh) && same_chip(tube_reset(fresh), fresh));
     expect("tube_lines: none of a fresh record and of one over its capacities", tube_lines(fresh) == 0 && tube_lines(full) == 0);
 
     TubeChip all = fresh;
-    all.flags = 0xFF;
-    memcpy(all.held, tube_capacity, 8);
+    all.flags = UINT64_MAX;
+    for (int c = 0; c < 8; c++)
+        all.held |= holding(c, tube_capacity[c]);
     int lines = tube_lines(all) == TUBE_HOST_IRQ + TUBE_PARASITE_IRQ + TUBE_PARASITE_NMI + TUBE_PARASITE_RESET;
     all.flags = TUBE_FLAG_P;
     lines = lines && tube_lines(all) == TUBE_PARASITE_RESET;
@@ -99,10 +104,10 @@ static void chip_made(void) {
 
 static void accesses(void) {
     TubeChip chip = tube_new();
-    int taken = answers(tube_access(&chip, TUBE_HOST, TUBE_R1_DATA, TUBE_WRITE, 0x2A), TUBE_DONE, 0) && chip.held[0] == 1 && chip.bytes[tube_start[0]] == 0x2A;
+    int taken = answers(tube_access(&chip, TUBE_HOST, TUBE_R1_DATA, TUBE_WRITE, 0x2A), TUBE_DONE, 0) && chip.held == holding(0, 1) && TUBE_BYTE(chip.oldest, 0) == 0x2A;
     TubeChip before = chip;
     int full = answers(tube_access(&chip, TUBE_HOST, TUBE_R1_DATA, 0xFF, 0x2B), TUBE_NO_ROOM, 0) && same_chip(chip, before);
-    int read = answers(tube_access(&chip, TUBE_PARASITE, TUBE_R1_DATA, TUBE_READ, 0xFF), TUBE_DONE, 0x2A) && chip.held[0] == 0;
+    int read = answers(tube_access(&chip, TUBE_PARASITE, TUBE_R1_DATA, TUBE_READ, 0xFF), TUBE_DONE, 0x2A) && chip.held == 0;
     before = chip;
     int empty = answers(tube_access(&chip, TUBE_PARASITE, TUBE_R1_DATA, TUBE_READ, 0), TUBE_EMPTY, 0) && same_chip(chip, before);
     expect("tube_access: taken, no room, read, empty", taken && full && read && empty);
@@ -132,9 +137,9 @@ static void accesses(void) {
     int over = 1;
     for (int c = 0; c < 8; c++) {
         chip = tube_new();
-        chip.held[c] = tube_capacity[c];
+        chip.held = holding(c, tube_capacity[c]);
         over = over && tube_access(&chip, TUBE_HOST, TUBE_R1_STATUS, TUBE_READ, 0).answer == TUBE_DONE;
-        chip.held[c]++;
+        chip.held += holding(c, 1);
         before = chip;
         over = over && answers(tube_access(&chip, TUBE_HOST, TUBE_R1_STATUS, TUBE_READ, 0), TUBE_MISSING, 0)
                && answers(tube_access(&chip, TUBE_PARASITE, TUBE_R1_DATA, TUBE_WRITE, 1), TUBE_MISSING, 0) && same_chip(chip, before);
@@ -180,7 +185,7 @@ static void scripts(void) {
                                                            && ended(tube_play(chip, script, 11, SIZE_MAX, results, AREA), 3, TUBE_CUT_SHORT) && kept(&one, 0, 9)
                                                            && ended(tube_play(chip, script, 11, 3, results, AREA), 3, TUBE_LIMIT_REACHED));
     TubeChip broken = chip;
-    broken.held[1] = 255;
+    broken.held = holding(1, 255);
     const uint8_t mend[9] = {TUBE_HOST_READ, 0, 0, TUBE_RESET, 9, 9, 255, 0, 0};
     results = lend(&one);
     TubePlayed mended = tube_play(broken, mend, 9, 3, results, 9);

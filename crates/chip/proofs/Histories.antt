@@ -4,6 +4,7 @@ use Prim.Native.Nat.{ℕ}
 use mathlib.Core.Path.{_≡_, refl, sym, ap, _∙_}
 use mathlib.Core.Bool.{Bool, true, false, cond}
 use mathlib.Core.List.{List, [], _∷_, _++_}
+use Rattle.word.specs.Word.{power, digit}
 use Rattle.chip.specs.declared.Chip.{Chip}
 use Rattle.chip.specs.Record.{stateOf, validOf, view, blank, repaired}
 use Rattle.chip.specs.Promise.{Access-done, Reset-done, History}
@@ -17,7 +18,7 @@ use Rattle.chip_rules.proofs.Taken.{taken-when-room, status-read-leaves}
 use Rattle.chip_rules.proofs.Bytes.{bytes-in-order, since-emptied, emptied-holds}
 
 blank-view : view blank ≡ sound fresh
-unfolding validOf capacity fresh emptied
+unfolding validOf capacity fresh emptied digit power
 blank-view = refl
 
 resets : (k j : Chip) → Reset-done k j → view j ≡ cleared repaired (view k)

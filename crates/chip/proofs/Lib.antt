@@ -2,4 +2,3 @@ pub mod Each
 pub mod Parts
 pub mod Steps
 pub mod Histories
-pub mod Bits

@@ -3,7 +3,7 @@ use Prim.Native.Nat.{ℕ, _/_, _<_, _≤_}
 use mathlib.Core.Path.{_≡_, refl, sym, _∙_, ap}
 use mathlib.Core.Bool.{Bool, true, false, cond, not, _&&_, true≢false}
 use mathlib.Core.List.{[], _∷_}
-use lib.ListN.{length, replicate}
+use lib.ListN.{length}
 use lib.Seq.{set-getD}
 use lib.Dec.{ltb, leb, eqb}
 use native.Mathlib.Omega.{arith}
@@ -12,9 +12,11 @@ use Rattle.chip.specs.declared.Chip.{Chip}
 use Rattle.chip.specs.declared.Taken.{Taken}
 use Rattle.chip.specs.declared.Accessed.{Accessed}
 use Rattle.chip.specs.declared.Answer.the-variants.{Done, NoRoom, Empty}
-use Rattle.chip.specs.Record.{flagsOf, stateOf, validOf}
+use Rattle.flags.specs.Flags.{flagsOf, Flags-after}
+use Rattle.word.specs.Word.{power, digit}
+use Rattle.chip.specs.Record.{stateOf, validOf}
 use Rattle.chip.specs.Promise.{Unused-kept, replyOf, Access-done}
-use Rattle.chip.specs.Steps.{Flags-after, Step-done, Put-done, Take-done, Control-done}
+use Rattle.chip.specs.Steps.{Step-done, Put-done, Take-done, Control-done}
 use Rattle.chip_rules.specs.State.{Channel, State, Outcome, R3, held, chan, put, Access, done}
 use Rattle.chip_rules.specs.Rules.{bit, capacity, room, limit, decode, exists, clears, emptied, controlled, takeOldest, append, on, step, perform}
 use Rattle.chip_rules.specs.History.{View, sound}
@@ -26,7 +28,7 @@ put-same : (s : State) (c : ℕ) → s ≡ put s c (chan s c)
 put-same s c = rw (set-getD (s .channels) c [])
 
 unused-same : (chip : Chip) → Unused-kept chip chip
-unused-same chip = record { bytes = λ p f. refl; bits = refl }
+unused-same chip = record { bytes = λ c i h l m. refl; bits = refl }
 
 -- a channel of no bytes
 nothing : (l : Channel) → ltb 0 (length l) ≡ false → l ≡ []
@@ -86,13 +88,15 @@ module _ (chip : Chip) (x : ℕ) where
       record { reply = refl; state = d .state; valid = d .valid; kept = λ n. absurd (n refl); free = d .free }
 
   module _ (f : ℕ) (d : Flags-after x (chip .flags) f) where
-    pub clear-done : clears x ≡ true → Control-done chip x (record { bytes = chip .bytes; held = replicate 8 0; flags = f })
-    unfolding emptied validOf capacity
-    clear-done e = record { state = rw (e, ← d .flags); valid = refl; free = record { bytes = λ p f. refl; bits = d .bits } }
+    pub clear-done : clears x ≡ true
+        → Control-done chip x (record { oldest = chip .oldest; next = chip .next; later = chip .later; held = 0; flags = f })
+    unfolding emptied validOf capacity digit power
+    clear-done e = record { state = rw (e, ← d .flags); valid = refl; free = record { bytes = λ c i h l m. refl; bits = d .bits } }
 
-    pub control-done : clears x ≡ false → validOf chip ≡ true → Control-done chip x (record { bytes = chip .bytes; held = chip .held; flags = f })
+    pub control-done : clears x ≡ false → validOf chip ≡ true
+        → Control-done chip x (record { oldest = chip .oldest; next = chip .next; later = chip .later; held = chip .held; flags = f })
     unfolding validOf
-    control-done e ok = record { state = rw (e, ← d .flags); valid = ok; free = record { bytes = λ p f. refl; bits = d .bits } }
+    control-done e ok = record { state = rw (e, ← d .flags); valid = ok; free = record { bytes = λ c i h l m. refl; bits = d .bits } }
 
 -- one of the tests fails, and it is not the last
 no-access : (a b c : Bool) → (a && (b && c)) ≡ false → c ≡ true → (a && b) ≡ false

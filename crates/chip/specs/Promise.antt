@@ -1,14 +1,13 @@
 -- What the chip's functions promise, by the rules and through the view of the record.
-use Prim.Native.Nat.{ℕ, _/_}
+use Prim.Native.Nat.{ℕ, _/_, _<_, _≤_}
 use mathlib.Core.Path.{_≡_}
 use mathlib.Core.Bool.{Bool}
 use mathlib.Core.List.{List}
-use lib.ListN.{getD}
 use Rattle.chip.specs.declared.Chip.{Chip}
 use Rattle.chip.specs.declared.Accessed.{Accessed}
 use Rattle.chip.specs.declared.Answer.{Answer}
 use Rattle.chip.specs.declared.Answer.the-variants.{Done, Missing, NoRoom, Empty}
-use Rattle.chip.specs.Record.{view, blank, Free}
+use Rattle.chip.specs.Record.{places, byteOf, countOf, view, blank}
 use Rattle.chip_rules.specs.State.{Access, Reply}
 use Rattle.chip_rules.specs.History.{Event, says, after}
 use Rattle.chip_rules.specs.Trace.{Trace}
@@ -28,7 +27,7 @@ accessOf side offset write byte = record { side = side; offset = offset; write =
 
 -- the part of a record that stands for nothing is as it was
 pub record Unused-kept (chip r : Chip) : Type 0 where
-  pub bytes : (p : ℕ) → Free r p → getD (r .bytes) p 0 ≡ getD (chip .bytes) p 0
+  pub bytes : (c i : ℕ) → c < 8 → i < places c → countOf r c ≤ i → byteOf r c i ≡ byteOf chip c i
   pub bits : r .flags / 64 ≡ chip .flags / 64
 
 -- What `access` promises of the record, the access, the reply and the record left, for every one of them.
@@ -39,7 +38,7 @@ pub record Access-done (chip : Chip) (a : Access) (r : Reply) (next : Chip) : Ty
   pub left : view next ≡ after (view chip) a
   -- "chip unchanged": a refusal leaves the record itself
   pub kept : (r .answer ≡ 0 → ⊥) → next ≡ chip
-  -- the free part: bytes of the array that are not held, and bits 7 and 6 of the flags, stand for nothing and stay as they were
+  -- the free part: bytes that are not held, and the bits above the six flags, stand for nothing and stay as they were
   pub free : Unused-kept chip next
 
 -- What `reset` promises: the record of a fresh chip, whatever it was.

@@ -1,23 +1,27 @@
-// The Tube chip as a record by value: eight channels, each with its own part of one array, and six flags.
+// The Tube chip as a record by value: eight channels and six flags.
 ghost use Prim.Native.Nat.{_+_, _≤_, _<_};
 ghost use mathlib.Core.Path.{_≡_};
 ghost use mathlib.Core.Bool.{true, cond, _&&_};
 ghost use lib.Dec.{leb, ltb, eqb};
 ghost use Rattle.chip_rules.specs.State.{held, fed, toward, chan, done, host, R1, R3};
-ghost use Rattle.chip_rules.specs.Rules.{decode, capacity, limit, room, nFlag, ready, weigh, low, statusOf, bit, switched, control, clears, controlled, hostIrq, parasiteIrq, parasiteNmi, lines, takeOldest, append, on, step};
+ghost use Rattle.chip_rules.specs.Rules.{decode, capacity, limit, room, nFlag, ready, statusOf, bit, controlled, hostIrq, parasiteIrq, parasiteNmi, lines, takeOldest, append, on, step};
 ghost use Rattle.chip_rules.specs.History.{lineValue};
-ghost use Rattle.chip.specs.Record.{flagsOf, stateOf, validOf, view, blank};
+ghost use Rattle.flags.specs.Flags.{flagsOf};
+ghost use Rattle.chip.specs.Record.{places, stateOf, validOf, view, blank};
 ghost use Rattle.chip.specs.Promise.{number, accessOf, replyOf, Access-done, Reset-done};
-ghost use Rattle.chip.specs.Steps.{Shifted, told, Flags-after, Step-done, Put-done, Take-done, Control-done};
+ghost use Rattle.chip.specs.Steps.{told, Step-done, Stored, Moved-down, Counted, Put-done, Take-done, Control-done};
 
-// The bytes of channel c lie in its part of `bytes`, oldest first, and `held[c]` counts them. Channels are numbered register by
-// register, host-to-parasite first; the part of parasite-to-host R1 lies last. The flags P V M J I Q are bits 5 to 0 of `flags`;
-// its bits 7 and 6 stand for nothing. Every value of every byte is a chip record.
+// A record of words, so that an access changes registers and no array in memory. Channels are numbered register by register,
+// host-to-parasite first. Byte c of `held` counts the bytes of channel c; byte c of `oldest` is its oldest and byte c of `next` the one
+// behind; the third byte of parasite-to-host R1 and those behind it are in `later`. The flags P V M J I Q are bits 5 to 0 of `flags`; the
+// bits above them stand for nothing. Every value of every word is a chip record.
 #[repr(C)]
 pub struct Chip {
-    pub bytes: [u8; 24],
-    pub held: [u8; 8],
-    pub flags: u8,
+    pub oldest: u64,
+    pub next: u64,
+    pub later: u64,
+    pub held: u64,
+    pub flags: u64,
 }
 
 // The answers to an access: done; a side or offset that does not exist, or a record that holds more than its capacities;
@@ -55,9 +59,6 @@ struct Taken {
     chip: Chip,
 }
 
-// Where each channel's part of the array starts.
-const STARTS: [u8; 8] = [0, 9, 1, 2, 3, 5, 7, 8];
-
 const CAPACITIES: [u8; 8] = [
     Chip::LATCH_CAPACITY,
     Chip::R1_CAPACITY,
@@ -77,26 +78,15 @@ impl Chip {
 
     pub const LATCH_CAPACITY: u8 = 1;
 
-    // The weights of the flags, by the application note's letters.
-    pub const FLAG_P: u8 = 32;
-
-    pub const FLAG_V: u8 = 16;
-
-    pub const FLAG_M: u8 = 8;
-
-    pub const FLAG_J: u8 = 4;
-
-    pub const FLAG_I: u8 = 2;
-
-    pub const FLAG_Q: u8 = 1;
-
     // A fresh chip.
     pub fn new() -> Self
         ensures { λ r. ⌜ r ≡ blank ⌝ }
     {
         Chip {
-            bytes: [0; 24],
-            held: [0; 8],
+            oldest: 0,
+            next: 0,
+            later: 0,
+            held: 0,
             flags: 0,
         }
     }
@@ -131,9 +121,9 @@ impl Chip {
         ensures { λ r. ⌜ r ≡ validOf self ⌝ }
     {
         let held = self.held;
-        let mut c: usize = 0;
+        let mut c: u8 = 0;
         while c < 8 {
-            if CAPACITIES[c] < held[c] {
+            if CAPACITIES[c as usize] < word::digit(held, c) {
                 return false;
             }
             c += 1;
@@ -174,7 +164,7 @@ impl Chip {
     }
 
     // A data write of `b` to channel `c`.
-    fn write_data(self, c: usize, b: u8) -> Accessed
+    fn write_data(self, c: u8, b: u8) -> Accessed
         requires { ⌜ (c < 8) × (validOf self ≡ true) ⌝ }
         ensures { λ r. ⌜ Step-done self (on (stateOf self) c (append (room (flagsOf (self .flags)) c) b)) r ⌝ }
     {
@@ -186,7 +176,7 @@ impl Chip {
     }
 
     // A data read of channel `c`.
-    fn read_data(self, c: usize) -> Accessed
+    fn read_data(self, c: u8) -> Accessed
         requires { ⌜ (c < 8) × (validOf self ≡ true) ⌝ }
         ensures { λ r. ⌜ Step-done self (on (stateOf self) c takeOldest) r ⌝ }
     {
@@ -211,83 +201,100 @@ impl Chip {
         }
     }
 
-    // The chip after the control byte `x`. The clear leaves the array as it is.
+    // The chip after the control byte `x`. The clear leaves the bytes as they are.
     fn control(self, x: u8) -> Self
         requires { ⌜ validOf self ≡ true ⌝ }
         ensures { λ r. ⌜ Control-done self x r ⌝ }
     {
-        let bytes = self.bytes;
-        let flags = flags_after(x, self.flags);
-        if is_clear(x) {
-            return Chip {
-                bytes: bytes,
-                held: [0; 8],
-                flags: flags,
-            };
-        }
-        let held = self.held;
+        let flags = flags::flags_after(x, self.flags);
+        let held = if flags::is_clear(x) { 0 } else { self.held };
         Chip {
-            bytes: bytes,
+            oldest: self.oldest,
+            next: self.next,
+            later: self.later,
             held: held,
             flags: flags,
         }
     }
 
     // Channel `c` with one byte more.
-    fn put(self, c: usize, b: u8) -> Self
+    fn put(self, c: u8, b: u8) -> Self
         requires { ⌜ (c < 8) × (validOf self ≡ true) × (held (chan (stateOf self) c) < capacity c) ⌝ }
         ensures { λ r. ⌜ Put-done self c b r ⌝ }
     {
-        let mut bytes = self.bytes;
-        let mut held = self.held;
-        let flags = self.flags;
-        let n = held[c];
-        let at = STARTS[c] as usize + n as usize;
-        bytes[at] = b;
-        held[c] = n + 1;
-        Chip {
-            bytes: bytes,
-            held: held,
-            flags: flags,
-        }
+        let n = self.count(c);
+        self.stored(c, n, b).counted(c, n + 1)
     }
 
     // Channel `c` without its oldest byte, and that byte.
-    fn take(self, c: usize) -> Taken
+    fn take(self, c: u8) -> Taken
         requires { ⌜ (c < 8) × (validOf self ≡ true) × (0 < held (chan (stateOf self) c)) ⌝ }
         ensures { λ r. ⌜ Take-done self c r ⌝ }
     {
-        let bytes = self.bytes;
-        let mut held = self.held;
-        let flags = self.flags;
-        let fewer = held[c] - 1;
-        let oldest = STARTS[c] as usize;
-        let newest = oldest + fewer as usize;
-        let byte = bytes[oldest];
-        let rest = shifted(bytes, oldest, newest);
-        held[c] = fewer;
-        let next = Chip {
-            bytes: rest,
-            held: held,
-            flags: flags,
-        };
+        let byte = word::digit(self.oldest, c);
+        let fewer = self.count(c) - 1;
+        let rest = self.moved_down(c, fewer).counted(c, fewer);
         Taken {
             byte: byte,
-            chip: next,
+            chip: rest,
         }
     }
 
+    // The byte `i` behind the oldest of channel `c` is `b`.
+    fn stored(self, c: u8, i: u8, b: u8) -> Self
+        requires { ⌜ (c < 8) × (i < places c) ⌝ }
+        ensures { λ r. ⌜ Stored self c i b r ⌝ }
+    {
+        let mut chip = self;
+        if i == 0 {
+            chip.oldest = word::replaced(self.oldest, c, b);
+            return chip;
+        }
+        if i == 1 {
+            chip.next = word::replaced(self.next, c, b);
+            return chip;
+        }
+        chip.later = word::replaced(self.later, i - 2, b);
+        chip
+    }
+
+    // Each of the `n` oldest bytes of channel `c` is the one behind it.
+    fn moved_down(self, c: u8, n: u8) -> Self
+        requires { ⌜ (c < 8) × (n < places c) ⌝ }
+        ensures { λ r. ⌜ Moved-down self c n r ⌝ }
+    {
+        let mut rest = self;
+        if n == 0 {
+            return rest;
+        }
+        rest.oldest = word::replaced(self.oldest, c, word::digit(self.next, c));
+        if n == 1 {
+            return rest;
+        }
+        rest.next = word::replaced(self.next, c, word::digit(self.later, 0));
+        rest.later = word::slid(self.later, n - 2);
+        rest
+    }
+
+    // Channel `c` counted as holding `n` bytes.
+    fn counted(self, c: u8, n: u8) -> Self
+        ensures { λ r. ⌜ Counted self c n r ⌝ }
+    {
+        let mut chip = self;
+        chip.held = word::replaced(self.held, c, n);
+        chip
+    }
+
     // How many bytes channel `c` holds.
-    fn count(self, c: usize) -> u8
+    fn count(self, c: u8) -> u8
         requires { ⌜ c < 8 ⌝ }
         ensures { λ r. ⌜ r ≡ held (chan (stateOf self) c) ⌝ }
     {
-        let held = self.held;
-        held[c]
+        word::digit(self.held, c)
     }
 
     // Whether a data write to channel `c` would now be taken.
-    fn has_room(self, c: usize) -> bool
+    fn has_room(self, c: u8) -> bool
         requires { ⌜ c < 8 ⌝ }
         ensures { λ r. ⌜ r ≡ room (flagsOf (self .flags)) c (held (chan (stateOf self) c)) ⌝ }
     {
@@ -296,7 +303,7 @@ impl Chip {
     }
 
     // Whether channel `c` holds a byte.
-    fn holds_byte(self, c: usize) -> bool
+    fn holds_byte(self, c: u8) -> bool
         requires { ⌜ c < 8 ⌝ }
         ensures { λ r. ⌜ r ≡ ltb 0 (held (chan (stateOf self) c)) ⌝ }
     {
@@ -308,7 +315,7 @@ impl Chip {
         ensures { λ r. ⌜ r ≡ nFlag (flagsOf (self .flags)) (held (chan (stateOf self) (fed host R3))) ⌝ }
     {
         let flags = self.flags;
-        if has_bit(flags, Chip::FLAG_V) {
+        if flags::has_bit(flags, flags::V) {
             self.count(4) == 2
         } else {
             self.holds_byte(4)
@@ -333,9 +340,9 @@ impl Chip {
         ensures { λ r. ⌜ r ≡ statusOf (stateOf self) side register ⌝ }
     {
         let flags = self.flags;
-        weight(self.is_ready(side, register), 128)
-            + weight(self.has_room(fed_by(side, register)), 64)
-            + low_bits(flags, register)
+        flags::weight(self.is_ready(side, register), 128)
+            + flags::weight(self.has_room(fed_by(side, register)), 64)
+            + flags::low_bits(flags, register)
     }
 
     // The sum of the asserted lines.
@@ -343,19 +350,19 @@ impl Chip {
         ensures { λ r. ⌜ r ≡ lines (stateOf self) ⌝ }
     {
         let flags = self.flags;
-        weight(self.host_irq(), 1)
-            + weight(self.parasite_irq(), 2)
-            + weight(self.parasite_nmi(), 4)
-            + weight(has_bit(flags, Chip::FLAG_P), 8)
+        flags::weight(self.host_irq(), 1)
+            + flags::weight(self.parasite_irq(), 2)
+            + flags::weight(self.parasite_nmi(), 4)
+            + flags::weight(flags::has_bit(flags, flags::P), 8)
     }
 
     // Whether the flag of weight `w` is set and channel `c` holds a byte.
-    fn interrupts(self, w: u8, c: usize) -> bool
-        requires { ⌜ (0 < w) × (c < 8) ⌝ }
+    fn interrupts(self, w: u8, c: u8) -> bool
+        requires { ⌜ c < 8 ⌝ }
         ensures { λ r. ⌜ r ≡ (bit (self .flags) w && ltb 0 (held (chan (stateOf self) c))) ⌝ }
     {
         let flags = self.flags;
-        if has_bit(flags, w) {
+        if flags::has_bit(flags, w) {
             self.holds_byte(c)
         } else {
             false
@@ -365,16 +372,16 @@ impl Chip {
     fn host_irq(self) -> bool
         ensures { λ r. ⌜ r ≡ hostIrq (stateOf self) ⌝ }
     {
-        self.interrupts(Chip::FLAG_Q, 7)
+        self.interrupts(flags::Q, 7)
     }
 
     fn parasite_irq(self) -> bool
         ensures { λ r. ⌜ r ≡ parasiteIrq (stateOf self) ⌝ }
     {
-        if self.interrupts(Chip::FLAG_I, 0) {
+        if self.interrupts(flags::I, 0) {
             true
         } else {
-            self.interrupts(Chip::FLAG_J, 6)
+            self.interrupts(flags::J, 6)
         }
     }
 
@@ -382,7 +389,7 @@ impl Chip {
         ensures { λ r. ⌜ r ≡ parasiteNmi (stateOf self) ⌝ }
     {
         let flags = self.flags;
-        if has_bit(flags, Chip::FLAG_M) {
+        if flags::has_bit(flags, flags::M) {
             self.n_flag()
         } else {
             false
@@ -412,104 +419,32 @@ fn is_register(side: u8, register: u8, owner: u8, number: u8) -> bool
 }
 
 // The channel of a register that a side feeds, and the one towards it.
-fn fed_by(side: u8, register: u8) -> usize
+fn fed_by(side: u8, register: u8) -> u8
     requires { ⌜ (side ≤ 1) × (register < 4) ⌝ }
     ensures { λ r. ⌜ (r ≡ fed side register) × (r < 8) ⌝ }
 {
-    2 * register as usize + side as usize
+    2 * register + side
 }
 
-fn towards(side: u8, register: u8) -> usize
+fn towards(side: u8, register: u8) -> u8
     requires { ⌜ (side ≤ 1) × (register < 4) ⌝ }
     ensures { λ r. ⌜ (r ≡ toward side register) × (r < 8) ⌝ }
 {
-    2 * register as usize + (1 - side) as usize
+    2 * register + (1 - side)
 }
 
 // The number of held bytes below which a write to channel `c` is taken.
-fn room_limit(flags: u8, c: usize) -> u8
+fn room_limit(flags: u64, c: u8) -> u8
     requires { ⌜ c < 8 ⌝ }
     ensures { λ r. ⌜ r ≡ limit (flagsOf flags) c ⌝ }
 {
     if c / 2 == 2 {
-        if has_bit(flags, Chip::FLAG_V) {
-            CAPACITIES[c]
+        if flags::has_bit(flags, flags::V) {
+            CAPACITIES[c as usize]
         } else {
             Chip::LATCH_CAPACITY
         }
     } else {
-        CAPACITIES[c]
+        CAPACITIES[c as usize]
     }
-}
-
-// The weight of a bit that is set, else 0.
-fn weight(set: bool, w: u8) -> u8
-    ensures { λ r. ⌜ (r ≡ weigh set w) × (r ≤ w) ⌝ }
-{
-    if set { w } else { 0 }
-}
-
-// Bits 5 to 0 of a status.
-fn low_bits(flags: u8, register: u8) -> u8
-    ensures { λ r. ⌜ (r ≡ low (flagsOf flags) register) × (r ≤ 63) ⌝ }
-{
-    if register == 0 { flags % 64 } else { 63 }
-}
-
-// Whether the bit of weight `w` is set in `x`.
-fn has_bit(x: u8, w: u8) -> bool
-    requires { ⌜ 0 < w ⌝ }
-    ensures { λ r. ⌜ r ≡ bit x w ⌝ }
-{
-    x / w % 2 == 1
-}
-
-// What the flag of weight `w` adds to the flags after the control byte `x`, whose bit 7 says what the flag becomes if its own bit is set.
-fn flag_after(x: u8, f: u8, w: u8) -> u8
-    requires { ⌜ 0 < w ⌝ }
-    ensures { λ r. ⌜ (r ≡ weigh (switched x w (bit f w)) w) × (r ≤ w) ⌝ }
-{
-    if has_bit(x, w) {
-        weight(has_bit(x, 128), w)
-    } else {
-        weight(has_bit(f, w), w)
-    }
-}
-
-fn flags_after(x: u8, f: u8) -> u8
-    ensures { λ r. ⌜ Flags-after x f r ⌝ }
-{
-    let spare = f / 64 * 64;
-    spare
-        + flag_after(x, f, Chip::FLAG_P)
-        + flag_after(x, f, Chip::FLAG_V)
-        + flag_after(x, f, Chip::FLAG_M)
-        + flag_after(x, f, Chip::FLAG_J)
-        + flag_after(x, f, Chip::FLAG_I)
-        + flag_after(x, f, Chip::FLAG_Q)
-}
-
-// Whether a control byte is the clear.
-fn is_clear(x: u8) -> bool
-    ensures { λ r. ⌜ r ≡ clears x ⌝ }
-{
-    if has_bit(x, 128) {
-        has_bit(x, 64)
-    } else {
-        false
-    }
-}
-
-// The array with each byte from `first` up to `last` replaced by the one after it.
-fn shifted(bytes: [u8; 24], first: usize, last: usize) -> [u8; 24]
-    requires { ⌜ (first ≤ last) × (last < 24) ⌝ }
-    ensures { λ r. ⌜ Shifted bytes first last r ⌝ }
-{
-    let mut out = bytes;
-    let mut i = first;
-    while i < last {
-        out[i] = out[i + 1];
-        i += 1;
-    }
-    out
 }

@@ -12,12 +12,14 @@ is-clear-requires : tie.Need-is-clear-requires
 is-clear-requires c κs = search needs
 
 returns : tie.Need-returns
-returns c = clear-done (c .before .before .before .before .args .self) (c .before .before .before .before .args .x) (c .before .before .flags-after .result) (c .before .before .flags-after .ensures) (sym (c .before .is-clear .ensures) ∙ c .if1 .taken)
+returns c =
+    let s = c .before .before .before in
+    clear-done (s .args .self) (s .args .x) (c .before .before .flags-after .result) (c .before .before .flags-after .ensures) (sym (c .before .is-clear .ensures) ∙ c .if1 .taken)
 
 returns-2 : tie.Need-returns-2
 returns-2 c =
-    let s = c .before .before .before .before .before in
-    control-done (s .args .self) (s .args .x) (c .before .before .before .flags-after .result) (c .before .before .before .flags-after .ensures) (sym (c .before .before .is-clear .ensures) ∙ c .before .if1 .left) (s .pre)
+    let s = c .before .before .before in
+    control-done (s .args .self) (s .args .x) (c .before .before .flags-after .result) (c .before .before .flags-after .ensures) (sym (c .before .is-clear .ensures) ∙ c .if1 .left) (s .pre)
 
 pub control-spec : {M : Type 1} → statement M
 control-spec = tie.close (tie.spec flags-after-requires is-clear-requires returns returns-2)

@@ -1,13 +1,12 @@
--- The flags byte: its bits by their weights, and the weights summed.
-use Prim.Native.Nat.{ℕ, _+_, _*_, _/_, _%_, _<_, _≤_}
+-- The bits of a number by their weights, and the weights summed.
+use Prim.Native.Nat.{ℕ, div·zero, _+_, _*_, _/_, _%_, _<_, _≤_}
 use mathlib.Core.Path.{_≡_, refl}
 use mathlib.Core.Bool.{Bool, true, false}
 use lib.Dec.{eqb}
 use native.Mathlib.Nat.{mul-add-div, div-eq-of-lt}
 use native.Mathlib.Omega.{arith}
 use borrow.Author.Tests.{eq-eqb, ne-eqb, eqb-true, eqb-false}
-use Rattle.chip.specs.Record.{flagsOf}
-use Rattle.chip.specs.Steps.{Flags-after}
+use Rattle.flags.specs.Flags.{flagsOf, Flags-after}
 use Rattle.chip_rules.specs.Rules.{bit, weigh, switched, control, flagBits}
 
 -- a bit as a number
@@ -53,10 +52,10 @@ low-six n =
     (summed (n / 32 % 2) (n / 16 % 2) (n / 8 % 2) (n / 4 % 2) (n / 2 % 2) (n / 1 % 2) (n % 32) (n % 16) (n % 8) (n % 4) (n % 2) (n % 64)
     (omega arith) (omega arith) (omega arith) (omega arith) (omega arith) (omega arith))
 
--- six flags packed below what is left of the byte
+-- six flags packed below what is left of the number
 module _ (u : ℕ) (p v m j i q : Bool) where
   packed : ℕ
-  packed = u * 64 + weigh p 32 + weigh v 16 + weigh m 8 + weigh j 4 + weigh i 2 + weigh q 1
+  packed = u * 64 + (weigh p 32 + weigh v 16 + weigh m 8 + weigh j 4 + weigh i 2 + weigh q 1)
 
   digits : packed ≡ 64 * u + 32 * digit p + 16 * digit v + 8 * digit m + 4 * digit j + 2 * digit i + digit q
   unfolding packed
@@ -91,9 +90,13 @@ module _ (u : ℕ) (p v m j i q : Bool) where
       let q₁ = few q in
       omega arith
 
+-- no bit has weight 0
+pub no-weight : (x : ℕ) → bit x 0 ≡ false
+no-weight x = rw (div·zero x)
+
 pub flags-after : (x f : ℕ)
-    → Flags-after x f (f / 64 * 64 + weigh (switched x 32 (bit f 32)) 32 + weigh (switched x 16 (bit f 16)) 16 + weigh (switched x 8 (bit f 8)) 8
-    + weigh (switched x 4 (bit f 4)) 4 + weigh (switched x 2 (bit f 2)) 2 + weigh (switched x 1 (bit f 1)) 1)
+    → Flags-after x f (f / 64 * 64 + (weigh (switched x 32 (bit f 32)) 32 + weigh (switched x 16 (bit f 16)) 16 + weigh (switched x 8 (bit f 8)) 8
+    + weigh (switched x 4 (bit f 4)) 4 + weigh (switched x 2 (bit f 2)) 2 + weigh (switched x 1 (bit f 1)) 1))
 unfolding control packed
 flags-after x f =
     record {

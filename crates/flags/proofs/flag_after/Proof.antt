@@ -1,7 +1,7 @@
 -- A flag whose bit is set becomes bit 7; any other keeps its own.
 use borrow.Author.Needs.{needs}
-use Rattle.chip.proofs.flag_after.Statement.{statement}
-use Rattle.chip.proofs.flag_after.Tie as tie
+use Rattle.flags.proofs.flag_after.Statement.{statement}
+use Rattle.flags.proofs.flag_after.Tie as tie
 
 has-bit-requires : tie.Need-has-bit-requires
 has-bit-requires c κs = search needs

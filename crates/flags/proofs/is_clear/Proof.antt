@@ -1,8 +1,8 @@
 -- Both bits, tested in turn.
 use Rattle.chip_rules.specs.Rules.{clears}
 use borrow.Author.Needs.{needs}
-use Rattle.chip.proofs.is_clear.Statement.{statement}
-use Rattle.chip.proofs.is_clear.Tie as tie
+use Rattle.flags.proofs.is_clear.Statement.{statement}
+use Rattle.flags.proofs.is_clear.Tie as tie
 
 has-bit-requires : tie.Need-has-bit-requires
 has-bit-requires c κs = search needs
