@@ -9,14 +9,14 @@ use native.Mathlib.Omega.{arith}
 use native.Mathlib.Numerals.{add-one}
 use native.Mathlib.Decide.{ℕ-discrete}
 use borrow.Author.Tests.{leb-true, le-leb, ltb-true, ltb-false, eqb-true}
-use Rattle.word.specs.Word.{digit, Replaced, Slid}
+use Rattle.word.specs.Word.{power, digit, Replaced, Slid}
 use Rattle.flags.specs.Flags.{flagsOf}
 use Rattle.chip.specs.declared.Chip.{Chip}
 use Rattle.chip.specs.Each.{each, every}
 use Rattle.chip.specs.Record.{places, byteIn, byteOf, countOf, contents, stateOf, validOf}
 use Rattle.chip.specs.Promise.{Unused-kept}
 use Rattle.chip.specs.Steps.{Stored, Moved-down, Counted, Put-done, Take-done}
-use Rattle.chip_rules.specs.State.{held, chan, put}
+use Rattle.chip_rules.specs.State.{R3, held, chan, put}
 use Rattle.chip_rules.specs.Rules.{capacity}
 use Rattle.chip.proofs.Each.{each-at, each-length, each-same, each-snoc, each-set, every-at, every-true}
 
@@ -28,6 +28,23 @@ enough k h = leb-true (capacity k) (places k) (every-at (λ j. leb (capacity j) 
 few : (k : ℕ) → k < 8 → places k ≤ 10
 unfolding places
 few k h = leb-true (places k) 10 (every-at (λ j. leb (places j) 10) 8 k refl h)
+
+-- The words that the code compares counts with, byte by byte: the capacities, and the limits while V is clear. Each is computed once.
+abbrev capacities : ℕ
+capacities = 72341276644674049
+
+abbrev limits : ℕ
+limits = 72340172838078977
+
+pub capacity-at : (k : ℕ) → k < 8 → digit capacities k ≡ capacity k
+unfolding capacity digit power
+capacity-at k h = eqb-true (digit capacities k) (capacity k) (every-at (λ j. eqb (digit capacities j) (capacity j)) 8 k refl h)
+
+pub limit-at : (k : ℕ) → k < 8 → digit limits k ≡ cond (eqb (k / 2) R3) 1 (capacity k)
+unfolding capacity digit power
+limit-at k h =
+    eqb-true (digit limits k) (cond (eqb (k / 2) R3) 1 (capacity k))
+    (every-at (λ j. eqb (digit limits j) (cond (eqb (j / 2) R3) 1 (capacity j))) 8 k refl h)
 
 -- a channel with a third place is parasite-to-host R1, and has ten
 pub record Third (k : ℕ) : Type 0 where

@@ -59,16 +59,13 @@ struct Taken {
     chip: Chip,
 }
 
-const CAPACITIES: [u8; 8] = [
-    Chip::LATCH_CAPACITY,
-    Chip::R1_CAPACITY,
-    Chip::LATCH_CAPACITY,
-    Chip::LATCH_CAPACITY,
-    Chip::R3_CAPACITY,
-    Chip::R3_CAPACITY,
-    Chip::LATCH_CAPACITY,
-    Chip::LATCH_CAPACITY,
-];
+// What each channel holds: byte c is the capacity of channel c. And below how many bytes held it takes one while V is clear: R3 when empty.
+const CAPACITIES: u64 = Chip::LATCH_CAPACITY as u64 * 0x0101_0000_0101_0001
+    + Chip::R3_CAPACITY as u64 * 0x0000_0101_0000_0000
+    + Chip::R1_CAPACITY as u64 * 0x0000_0000_0000_0100;
+
+const LIMITS_V_CLEAR: u64 = Chip::LATCH_CAPACITY as u64 * 0x0101_0101_0101_0001
+    + Chip::R1_CAPACITY as u64 * 0x0000_0000_0000_0100;
 
 impl Chip {
     // What parasite-to-host R1, R3 either way, and every other channel hold.
@@ -123,7 +120,7 @@ impl Chip {
         let held = self.held;
         let mut c: u8 = 0;
         while c < 8 {
-            if CAPACITIES[c as usize] < word::digit(held, c) {
+            if word::digit(CAPACITIES, c) < word::digit(held, c) {
                 return false;
             }
             c += 1;
@@ -438,13 +435,9 @@ fn room_limit(flags: u64, c: u8) -> u8
     requires { ⌜ c < 8 ⌝ }
     ensures { λ r. ⌜ r ≡ limit (flagsOf flags) c ⌝ }
 {
-    if c / 2 == 2 {
-        if flags::has_bit(flags, flags::V) {
-            CAPACITIES[c as usize]
-        } else {
-            Chip::LATCH_CAPACITY
-        }
+    if flags::has_bit(flags, flags::V) {
+        word::digit(CAPACITIES, c)
     } else {
-        CAPACITIES[c as usize]
+        word::digit(LIMITS_V_CLEAR, c)
     }
 }

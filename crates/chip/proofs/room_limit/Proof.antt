@@ -1,6 +1,9 @@
--- R3 with V clear takes a byte only when empty; elsewhere the capacity decides.
-use Rattle.chip_rules.specs.Rules.{capacity}
-use borrow.Author.Tests.{eq-eqb, ne-eqb}
+-- With V set the capacity decides; with V clear R3 takes a byte only when empty.
+use Rattle.chip.proofs.Parts.{capacity-at, limit-at}
+use Rattle.chip_rules.specs.State.{R3}
+use Prim.Native.Nat.{_/_}
+use lib.Dec.{eqb}
+use mathlib.Core.Bool.{and-false, and-true}
 use borrow.Author.Needs.{needs}
 use Rattle.chip.proofs.room_limit.Statement.{statement}
 use Rattle.chip.proofs.room_limit.Tie as tie
@@ -8,25 +11,22 @@ use Rattle.chip.proofs.room_limit.Tie as tie
 has-bit-requires : tie.Need-has-bit-requires
 has-bit-requires c κs = search needs
 
-array-read-result : tie.Need-array-read-result
-array-read-result c = search needs
+digit-requires : tie.Need-digit-requires
+digit-requires c κs = search needs
 
-array-read-result-2 : tie.Need-array-read-result-2
-array-read-result-2 c = search needs
+digit-requires-2 : tie.Need-digit-requires-2
+digit-requires-2 c κs = search needs
 
 returns : tie.Need-returns
-unfolding capacity
-returns c = rw (eq-eqb _ _ (c .before .before .if1 .taken), ← c .before .has-bit .ensures, c .if2 .taken)
+returns c =
+    let s = c .before .before .before in
+    rw (← c .before .before .has-bit .ensures, c .before .if1 .taken, and-false (eqb (s .args .c / 2) R3), c .digit .ensures) (capacity-at (s .args .c) (s .pre))
 
 returns-2 : tie.Need-returns-2
-unfolding capacity
-returns-2 c = rw (eq-eqb _ _ (c .before .before .if1 .taken), ← c .before .has-bit .ensures, c .if2 .left)
-
-returns-3 : tie.Need-returns-3
-unfolding capacity
-returns-3 c = rw (ne-eqb _ _ (c .if1 .left))
+returns-2 c =
+    let s = c .before .before .before in
+    rw (← c .before .before .has-bit .ensures, c .before .if1 .left, and-true (eqb (s .args .c / 2) R3), c .digit2 .ensures) (limit-at (s .args .c) (s .pre))
 
 pub room-limit-spec : {M : Type 1} → statement M
 room-limit-spec =
-    tie.close
-    (tie.spec has-bit-requires array-read-result array-read-result-2 returns returns-2 returns-3)
+    tie.close (tie.spec has-bit-requires digit-requires digit-requires-2 returns returns-2)

@@ -1,4 +1,5 @@
 -- The loop has passed channels that hold no more than their capacity; the first that holds more makes the record invalid.
+use Rattle.chip.proofs.Parts.{capacity-at}
 use Rattle.chip.proofs.Each.{every-false, every-true}
 use Rattle.chip_rules.specs.Rules.{capacity}
 use Rattle.chip.specs.Record.{validOf}
@@ -9,7 +10,7 @@ use borrow.Author.Count.{below-more}
 use borrow.Author.Needs.{needs}
 use native.Mathlib.Omega.{arith}
 use mathlib.Core.Bool.{true}
-use mathlib.Core.Path.{_≡_, sym}
+use mathlib.Core.Path.{_≡_, sym, _∙_}
 use Prim.Native.Nat.{ℕ, _≤_, _<_, _-_}
 use Rattle.chip.proofs.Chip.valid.Statement.{statement}
 use Rattle.chip.proofs.Chip.valid.Tie as tie
@@ -23,20 +24,19 @@ abbrev μ-loop : tie.MeasureT-loop
 loop-holds : tie.Need-loop-holds Inv-loop μ-loop
 loop-holds c = (omega arith, λ j h. absurd (omega arith))
 
-cast-if1 : tie.Need-cast-if1 Inv-loop μ-loop
-cast-if1 c = search needs
-
-array-read-if1 : tie.Need-array-read-if1 Inv-loop μ-loop
-array-read-if1 c = search needs
-
 digit-requires : tie.Need-digit-requires Inv-loop μ-loop
 digit-requires c κs = search needs
 
+digit-requires-2 : tie.Need-digit-requires-2 Inv-loop μ-loop
+digit-requires-2 c κs = search needs
+
 returns : tie.Need-returns Inv-loop μ-loop
-unfolding validOf capacity
+unfolding validOf
 returns c =
-    let held = c .before .before .before .before .args .self .held in
-    sym (every-false (λ j. leb (digit held j) (capacity j)) 8 (c .before .before .before .loop .c) (omega arith) (rw (c .before .digit .ensures) at (lt-leb _ _ (c .if1 .taken))))
+    let k = c .before .before .before .before .loop .c in
+    let held = c .before .before .before .before .before .args .self .held in
+    let more = rw (c .before .before .digit .ensures ∙ capacity-at k (omega arith), c .before .digit2 .ensures) at (c .if1 .taken) in
+    sym (every-false (λ j. leb (digit held j) (capacity j)) 8 k (omega arith) (lt-leb (digit held k) (capacity k) more))
 
 add-c : tie.Need-add-c Inv-loop μ-loop
 add-c c = search needs
@@ -45,8 +45,11 @@ loop-less : tie.Need-loop-less Inv-loop μ-loop
 loop-less c = search needs
 
 loop-again : tie.Need-loop-again Inv-loop μ-loop
-unfolding capacity
-loop-again c = (omega arith, below-more _ _ (c .before .before .before .loop .inv .1) (rw (c .before .digit .ensures) at (le-leb _ _ (c .if1 .left))))
+loop-again c =
+    let k = c .before .before .before .before .loop .c in
+    let held = c .before .before .before .before .before .args .self .held in
+    let most = rw (c .before .before .digit .ensures ∙ capacity-at k (omega arith), c .before .digit2 .ensures) at (c .if1 .left) in
+    (omega arith, below-more _ _ (c .before .before .before .before .loop .inv .1) (le-leb (digit held k) (capacity k) most))
 
 returns-2 : tie.Need-returns-2 Inv-loop μ-loop
 unfolding validOf
@@ -59,9 +62,8 @@ valid-spec =
     Inv-loop
     μ-loop
     loop-holds
-    cast-if1
-    array-read-if1
     digit-requires
+    digit-requires-2
     returns
     add-c
     loop-less
