@@ -26,11 +26,10 @@ static void print_block(const uint8_t *bytes, size_t length) {
         printf(" %02X", bytes[i]);
 }
 
-/* A string up to its return. */
-static void print_string(const uint8_t *bytes) {
+static void print_string(const uint8_t *bytes, size_t length) {
     printf(", \"");
-    for (; *bytes != 0x0D; bytes++)
-        print_byte(*bytes);
+    for (size_t i = 0; i < length; i++)
+        print_byte(bytes[i]);
     putchar('"');
 }
 
@@ -40,7 +39,7 @@ static void print_request(const TubeRead *read, const uint8_t *body) {
     printf("request, %s names: ", styles[read->style]);
     switch ((TubeCall)kind.call) {
     case TUBE_OSRDCH: printf("OSRDCHIO"); break;
-    case TUBE_OSCLI: printf("OSCLI"); print_string(body); break;
+    case TUBE_OSCLI: printf("OSCLI"); print_string(body, read->length - 1); break;
     case TUBE_OSBYTE_LOW: printf("OSBYTE A=&%02X X=&%02X", body[1], body[0]); break;
     case TUBE_OSBYTE_HIGH: printf("OSBYTE A=&%02X X=&%02X Y=&%02X", body[2], body[0], body[1]); break;
     case TUBE_OSWORD:
@@ -52,11 +51,11 @@ static void print_request(const TubeRead *read, const uint8_t *body) {
     case TUBE_OSBGET: printf("OSBGET Y=&%02X", body[0]); break;
     case TUBE_OSBPUT: printf("OSBPUT A=&%02X Y=&%02X", body[1], body[0]); break;
     case TUBE_OSFIND_CLOSE: printf("OSFIND A=&00 Y=&%02X", body[1]); break;
-    case TUBE_OSFIND_OPEN: printf("OSFIND A=&%02X", body[0]); print_string(body + 1); break;
+    case TUBE_OSFIND_OPEN: printf("OSFIND A=&%02X", body[0]); print_string(body + 1, read->length - 2); break;
     case TUBE_OSFILE:
         printf("OSFILE A=&%02X", body[read->length - 1]);
-        print_string(body + 16);
-        print_block(body, 16);
+        print_string(body + TUBE_FILE_BLOCK, tube_file_name(body, read->length).length);
+        print_block(body, TUBE_FILE_BLOCK);
         break;
     case TUBE_OSGBPB: printf("OSGBPB A=&%02X", body[13]); print_block(body, 13); break;
     }

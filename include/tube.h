@@ -232,6 +232,16 @@ typedef struct {
  * a code that no request has, or of a body that is not finished. */
 TubeKind tube_kind_of(uint8_t code, const uint8_t *body, size_t length);
 
+enum { TUBE_FILE_BLOCK = 16 }; /* the bytes of OSFILE's block; its name stands behind them */
+
+typedef struct {
+    size_t length;  /* of the name, without its &0D; 0 unless the answer is 0 */
+    uint8_t answer; /* 0; TUBE_STRING_LONG: no &0D among the first 256 bytes behind the block; TUBE_BAD_FIELD: the body ends before one */
+} TubeName;
+
+/* The name in the body of an OSFILE request. In one that a reader finished it is always found. */
+TubeName tube_file_name(const uint8_t *body, size_t length);
+
 /* ---- Replies and actions, inward: the client's end of the serial lead ---- */
 
 enum {

@@ -4,10 +4,10 @@
 
 use crate::inputs::{Laden, escaped};
 use crate::interface::{
-    REPLY, TubeGiven, TubeWritten, tube_begin, tube_kind_of, tube_link, tube_read_reply, tube_run,
-    tube_write_reply,
+    REPLY, TubeGiven, TubeWritten, tube_begin, tube_file_name, tube_kind_of, tube_link,
+    tube_read_reply, tube_run, tube_write_reply,
 };
-use crate::link::serial::{BODY, Read, Reader, Request, SERIAL};
+use crate::link::serial::{self, BODY, Read, Reader, Request, SERIAL};
 use crate::link::{
     self, A_BLOCK, ACK, BLOCK, BLOCK_CARRY_A, Begun, CALLS, CARRY_A, CARRY_Y_X, ESCAPED, Given,
     LENT, LINE, Link, NOTE, NUMBER, OSARGS, OSBGET, OSBPUT, OSBYTE_HIGH, OSBYTE_LOW, OSCLI, OSFILE,
@@ -72,6 +72,8 @@ enum Property {
     GivenText,
     KindAny,
     KindRequest,
+    NameAny,
+    NameRequest,
     InputReplies,
     InputPairs,
     InputRules,
@@ -88,7 +90,7 @@ impl From<Property> for usize {
 }
 
 #[rustfmt::skip]
-const PROPERTIES: [Row<Property>; 26] = [
+const PROPERTIES: [Row<Property>; 28] = [
     (Property::Answer, "write: answer", 6 * WRITTEN),
     (Property::Length, "write: length", 6 * WRITTEN),
     (Property::Encoding, "write: the encoding", WRITTEN),
@@ -108,6 +110,8 @@ const PROPERTIES: [Row<Property>; 26] = [
     (Property::GivenText, "fields: place of the text", LISTS),
     (Property::KindAny, "kind: call and out length of any code and body", LISTS),
     (Property::KindRequest, "kind: call and out length of a finished request", LISTS / 20),
+    (Property::NameAny, "name: in any body", LISTS),
+    (Property::NameRequest, "name: in a finished OSFILE", LISTS / 400),
     (Property::InputReplies, "inputs: each answer for each call", 1),
     (Property::InputPairs, "inputs: each reply to each call", 1),
     (Property::InputRules, "inputs: each rule broken alone for each call", 1),
@@ -829,6 +833,14 @@ fn library_kind(code: u8, body: &[u8]) -> (u8, u8) {
     (kind.call, kind.out_length)
 }
 
+fn library_name(body: &[u8]) -> Result<usize, u8> {
+    let name = unsafe { tube_file_name(body.as_ptr(), body.len()) };
+    match name.answer {
+        0 => Ok(name.length),
+        number => Err(number),
+    }
+}
+
 /// A good request of a call, as the second program's reader gives it.
 fn request(random: &mut Random, call: u8, out_length: u8) -> (u8, Vec<u8>) {
     let mixture = random.below(4);
@@ -899,6 +911,10 @@ fn compare_kinds(random: &mut Random, count: u64, seen: &mut Seen, report: &mut 
         report.check(Property::KindAny, library == second, || {
             format!("{library:?}, second program {second:?}: code &{code:02X}, {body:02X?}")
         });
+        let (library, second) = (library_name(&body), serial::file_name(&body));
+        report.check(Property::NameAny, library == second, || {
+            format!("{library:?}, second program {second:?}: {body:02X?}")
+        });
     }
     for _ in 0..count / 20 {
         let call = random.below(CALLS as usize) as u8;
@@ -912,6 +928,12 @@ fn compare_kinds(random: &mut Random, count: u64, seen: &mut Seen, report: &mut 
         report.check(Property::KindRequest, library == expected, || {
             format!("{library:?}, expected {expected:?}: code &{code:02X}, {body:02X?}")
         });
+        if call == OSFILE {
+            let name = library_name(&body);
+            report.check(Property::NameRequest, name == Ok(body.len() - 18), || {
+                format!("{name:?}: {body:02X?}")
+            });
+        }
     }
 }
 

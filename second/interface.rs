@@ -140,6 +140,14 @@ pub struct TubeKind {
     pub out_length: u8,
 }
 
+/// A name found in a body: on answer 0 its length.
+#[repr(C)]
+#[derive(Clone, Copy, Debug)]
+pub struct TubeName {
+    pub length: usize,
+    pub answer: u8,
+}
+
 unsafe extern "C" {
     pub fn tube_access(
         chip: *mut TubeChip,
@@ -219,4 +227,5 @@ unsafe extern "C" {
     ) -> TubeWritten;
     pub fn tube_read_reply(call: u8, out_length: u8, bytes: *const u8, length: usize) -> TubeGiven;
     pub fn tube_kind_of(code: u8, body: *const u8, length: usize) -> TubeKind;
+    pub fn tube_file_name(body: *const u8, length: usize) -> TubeName;
 }

@@ -245,6 +245,16 @@ pub fn ends_string(count: usize, byte: u8) -> Result<bool, u8> {
     }
 }
 
+/// The length of the name in an OSFILE body, or the number of the refusal.
+pub fn file_name(body: &[u8]) -> Result<usize, u8> {
+    let behind = body.get(FILE_BLOCK..).unwrap_or(&[]);
+    match behind.iter().position(|&byte| byte == STRING_END) {
+        Some(length) if length <= LONGEST_STRING => Ok(length),
+        _ if behind.len() > LONGEST_STRING => Err(LONG_STRING),
+        _ => Err(BROKEN_RULE),
+    }
+}
+
 // ---- The writer ----
 
 /// A request to be written. Numbers that the call does not have are ignored.

@@ -74,12 +74,12 @@ static size_t length_of(void) {
 /* ---- Properties ---- */
 
 enum {
-    ACCESS, NEW, RESET, LINES, PLAY, TEXT, READER, READ, FEED, WRITE_REQUEST, KIND_OF, LINK, BEGIN, LINK_STEP, RUN, WRITE_REPLY, READ_REPLY, EXPORTS
+    ACCESS, NEW, RESET, LINES, PLAY, TEXT, READER, READ, FEED, WRITE_REQUEST, KIND_OF, FILE_NAME, LINK, BEGIN, LINK_STEP, RUN, WRITE_REPLY, READ_REPLY, EXPORTS
 };
 
 static const char *const exports[EXPORTS] = {
     "tube_access", "tube_new", "tube_reset", "tube_lines", "tube_play", "tube_text", "tube_reader", "tube_read", "tube_feed", "tube_write_request",
-    "tube_kind_of", "tube_link", "tube_begin", "tube_link_step", "tube_run", "tube_write_reply", "tube_read_reply"};
+    "tube_kind_of", "tube_file_name", "tube_link", "tube_begin", "tube_link_step", "tube_run", "tube_write_reply", "tube_read_reply"};
 
 enum { INSIDE, STAYS, SOUND, KINDS };
 
@@ -103,6 +103,7 @@ static const unsigned long has[EXPORTS] = {
     [READ] = READER_KINDS | READER_REFUSALS,
     [FEED] = READER_KINDS | READER_REFUSALS,
     [WRITE_REQUEST] = WRITER,
+    [FILE_NAME] = BIT(TUBE_DONE) | BIT(TUBE_STRING_LONG) | BIT(TUBE_BAD_FIELD),
     [BEGIN] = BIT(TUBE_DONE) | BIT(TUBE_STOPPED) | BIT(TUBE_CALL_WAITS) | BIT(16 + TUBE_BEGUN) | BIT(16 + TUBE_COMPLETE) | BIT(16 + TUBE_DENIED),
     [LINK_STEP] = LINK_REFUSALS | 0x1FFul << 16,
     [RUN] = LINK_REFUSALS | BIT(TUBE_BUFFER_SHORT) | BIT(16 + TUBE_TOLD_MORE) | 0xFul << (16 + TUBE_TOLD_REPLY),
@@ -409,6 +410,19 @@ static void try_kind_of(void) {
     check(SOUND, k.call < TUBE_CALLS && (k.out_length == 0 || k.call == TUBE_OSWORD));
 }
 
+static void try_file_name(void) {
+    size_t length = length_of();
+    uint8_t *body = lend(0, length);
+    if (below(2))
+        memset(body, 'A', length);
+    filled(0);
+    TubeName n = tube_file_name(body, length);
+    came(n.answer);
+    check(INSIDE, all_stay(0));
+    check(SOUND, n.answer == TUBE_DONE ? n.length <= 255 && TUBE_FILE_BLOCK + n.length < length && body[TUBE_FILE_BLOCK + n.length] == 0x0D
+                                       : n.length == 0 && (n.answer == TUBE_STRING_LONG ? length > TUBE_FILE_BLOCK + 255 : n.answer == TUBE_BAD_FIELD));
+}
+
 /* ---- The link ---- */
 
 static TubeLink any_link(void) {
@@ -547,7 +561,7 @@ static void try_read_reply(void) {
 
 static void (*const trials[EXPORTS])(void) = {
     try_access, try_new, try_reset, try_lines, try_play, try_text, try_reader, try_read, try_feed, try_write_request,
-    try_kind_of, try_link, try_begin, try_link_step, try_run, try_write_reply, try_read_reply};
+    try_kind_of, try_file_name, try_link, try_begin, try_link_step, try_run, try_write_reply, try_read_reply};
 
 static sigjmp_buf out_of_call;
 

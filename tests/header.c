@@ -49,8 +49,9 @@ static void layout(void) {
                                        && sizeof(TubeRead) == 32 && AT(TubeRead, reader, 0) && AT(TubeRead, length, 16) && AT(TubeRead, kind, 24)
                                        && AT(TubeRead, value, 25) && AT(TubeRead, style, 26) && AT(TubeRead, code, 27)
                                        && sizeof(TubeFed) == 40 && AT(TubeFed, read, 0) && AT(TubeFed, used, 32));
-    expect("layout of the writers and kinds", sizeof(TubeWritten) == 16 && AT(TubeWritten, length, 0) && AT(TubeWritten, answer, 8)
-                                                  && sizeof(TubeKind) == 2 && AT(TubeKind, call, 0) && AT(TubeKind, out_length, 1));
+    expect("layout of the writers, kinds and names", sizeof(TubeWritten) == 16 && AT(TubeWritten, length, 0) && AT(TubeWritten, answer, 8)
+                                                  && sizeof(TubeKind) == 2 && AT(TubeKind, call, 0) && AT(TubeKind, out_length, 1)
+                                                  && sizeof(TubeName) == 16 && AT(TubeName, length, 0) && AT(TubeName, answer, 8));
     expect("layout of the link", sizeof(TubeLink) == 24 && AT(TubeLink, got, 0) && AT(TubeLink, held, 8) && AT(TubeLink, wait, 16)
                                      && AT(TubeLink, out_length, 17) && AT(TubeLink, escape, 18) && AT(TubeLink, action, 19) && AT(TubeLink, stopped, 20)
                                      && sizeof(TubeTold) == 40 && AT(TubeTold, link, 0) && AT(TubeTold, length, 24) && AT(TubeTold, kind, 32)
@@ -292,6 +293,19 @@ static void requests_written(void) {
     memset(out, 0x9B, 1);
     TubeKind empty = tube_kind_of(TUBE_CODE_OSWORD, out, 0), shut = tube_kind_of(TUBE_CODE_OSFIND, out, 0), other = tube_kind_of(0xFF, out, 1);
     expect("tube_kind_of: no body, no such code", empty.call == TUBE_OSWORD && empty.out_length == 0 && shut.out_length == 0 && other.call == TUBE_OSRDCH && other.out_length == 0);
+}
+
+static void names_found(void) {
+    uint8_t body[TUBE_BODY] = {0};
+    memset(body, 'A', sizeof body);
+    TubeName open = tube_file_name(body, 16 + 255), over = tube_file_name(body, sizeof body), none = tube_file_name(body, 0), block = tube_file_name(body, 16);
+    expect("tube_file_name: not ended, over 255 bytes, no block, no name", open.answer == TUBE_BAD_FIELD && over.answer == TUBE_STRING_LONG && none.answer == TUBE_BAD_FIELD
+                                                                              && block.answer == TUBE_BAD_FIELD && open.length + over.length + none.length + block.length == 0);
+    body[0] = body[15] = body[16 + 255] = 0x0D;
+    TubeName longest = tube_file_name(body, sizeof body), cut = tube_file_name(body, 16 + 255);
+    body[16] = 0x0D;
+    TubeName empty = tube_file_name(body, 17);
+    expect("tube_file_name: of 255 bytes and of none", longest.answer == TUBE_DONE && longest.length == 255 && cut.answer == TUBE_BAD_FIELD && empty.answer == TUBE_DONE && empty.length == 0);
 }
 
 static void requests_read(void) {
@@ -642,6 +656,7 @@ int main(void) {
     accesses();
     scripts();
     requests_written();
+    names_found();
     requests_read();
     calls_begun();
     steps();

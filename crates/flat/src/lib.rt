@@ -1,7 +1,8 @@
-// What the flat records for callers in C share: a flag kept as a number, and what a writer gives.
+// What the flat records for callers in C share: a flag kept as a number, what a writer gives, and a name found in a body.
 ghost use mathlib.Core.Path.{_≡_};
-ghost use Rattle.flat.specs.Flat.{flagNumber, flatWritten};
+ghost use Rattle.flat.specs.Flat.{flagNumber, flatWritten, flatName};
 use fields::Written;
+use strings::Text;
 
 // What a writer gives: the number of its answer, and on 0 the length of the encoding.
 #[repr(C)]
@@ -30,6 +31,29 @@ pub fn flat_written(written: Written) -> FlatWritten
         Written::NoRoom => FlatWritten {
             length: 0,
             answer: 8,
+        },
+    }
+}
+
+// A name found in a body: the number of the answer, and on 0 its length.
+#[repr(C)]
+pub struct FlatName {
+    pub length: usize,
+    pub answer: u8,
+}
+
+// The flat result of a scan for a name.
+pub fn flat_name(name: Text) -> FlatName
+    ensures { λ r. ⌜ r ≡ flatName name ⌝ }
+{
+    match name {
+        Text::Found(n) => FlatName {
+            length: n,
+            answer: 0,
+        },
+        Text::Refused(n) => FlatName {
+            length: 0,
+            answer: n,
         },
     }
 }

@@ -3,6 +3,8 @@
 ghost use mathlib.Core.Path.{_≡_};
 ghost use Rattle.script.specs.Script.{Play-done};
 ghost use Rattle.script_text.specs.Text.{Text-done};
+ghost use Rattle.strings.specs.Text.{nameOf};
+ghost use Rattle.flat.specs.Flat.{flatName};
 ghost use Rattle.flat_request.specs.Readers.{freshReader, Flat-done};
 ghost use Rattle.flat_request.specs.Feeds.{Flat-feed-done};
 ghost use Rattle.flat_request.specs.Calls.{callAt, Flat-request-done};
@@ -11,6 +13,7 @@ ghost use Rattle.flat_link.specs.Links.{freshLink, Flat-step-done, Flat-begin-d
 ghost use Rattle.flat_link.specs.Runs.{Flat-run-done};
 ghost use Rattle.flat_link.specs.Replies.{replyAt, Flat-reply-done, Flat-read-done};
 use chip::Chip;
+use flat::FlatName;
 use flat::FlatWritten;
 use flat_link::FlatBegun;
 use flat_link::FlatGiven;
@@ -80,6 +83,14 @@ pub extern "C" fn tube_write_request(
     ensures { λ r. ⌜ Flat-request-done carrier style call (callAt call x y a «out_length») (now (block .entry)) (now (text .entry)) (now (out .entry)) r (now (out .exit)) ⌝ }
 {
     flat_request::write_request(carrier, style, call, x, y, a, out_length, block, text, out)
+}
+
+// The name in a body of OSFILE: see `strings::file_name`.
+#[no_mangle]
+pub extern "C" fn tube_file_name(body: &[u8]) -> FlatName
+    ensures { λ r. ⌜ r ≡ flatName (nameOf (now (body .entry))) ⌝ }
+{
+    flat::flat_name(strings::file_name(body))
 }
 
 // A fresh link: see `flat_link::fresh`.
