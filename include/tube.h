@@ -253,17 +253,17 @@ enum {
 
 enum { TUBE_NO_ACTION = 0, TUBE_IN_ERROR = 1, TUBE_IN_EVENT = 2, TUBE_IN_ADDRESS = 3 }; /* the open action */
 
-/* A link. An escape was seen, and the link is stopped, where the number is not 0. A record with `wait` above 13 or `action` above 3, or one
- * that exceeds its limits (as many bytes of the reply, or of the open action, as there can be; bytes of either where there is none), counts as
- * stopped. */
+enum { TUBE_LINK_ESCAPE = 1, TUBE_LINK_STOPPED = 2 }; /* flags: an escape was seen; the link is stopped */
+
+/* A link. A record with `wait` above 13, or `action` or `flags` above 3, or one that exceeds its limits (as many bytes of the reply, or of the
+ * open action, as there can be; bytes of either where there is none), counts as stopped. */
 typedef struct {
-    size_t got;         /* bytes of the reply so far */
-    size_t held;        /* bytes of the open action so far */
+    uint16_t got;       /* bytes of the reply so far */
+    uint16_t held;      /* bytes of the open action so far */
     uint8_t wait;       /* 0 where no call waits, else 1 + the number of the call (TubeCall) */
     uint8_t out_length; /* of an OSWORD that waits */
-    uint8_t escape;
     uint8_t action;     /* the open one */
-    uint8_t stopped;
+    uint8_t flags;
 } TubeLink;
 
 /* Kinds of a link's answers. Those from TUBE_TOLD_CHARACTER to TUBE_TOLD_ADDRESS are also the kinds of notes. */

@@ -3,8 +3,8 @@
 
 use crate::inputs::{Laden, escaped, most};
 use crate::interface::{
-    self, NEED_MORE, REFUSED, REPLY, RESTART, TubeLink, TubeRan, TubeTold, tube_begin, tube_link,
-    tube_link_step, tube_run,
+    self, LINK_ESCAPE, LINK_STOPPED, NEED_MORE, REFUSED, REPLY, RESTART, TubeLink, TubeRan,
+    TubeTold, tube_begin, tube_link, tube_link_step, tube_run,
 };
 use crate::link::{
     ADDRESS, Begun, CALLS, ERROR, EVENT, LENT, Link, NO_ACTION, NOTE, OSRDCH, OSWORD, OSWORD_0,
@@ -16,37 +16,40 @@ use crate::report::{Report, Row, difference, every};
 impl TubeLink {
     fn from_second(link: &Link) -> TubeLink {
         TubeLink {
-            got: link.got,
-            held: link.held,
+            got: link.got as u16,
+            held: link.held as u16,
             wait: link.wait,
             out_length: link.out_length,
-            escape: link.escape as u8,
             action: link.action,
-            stopped: link.stopped as u8,
+            flags: LINK_ESCAPE * link.escape as u8 + LINK_STOPPED * link.stopped as u8,
         }
     }
 
+    /// The record given, stopped.
+    fn stopped(self) -> TubeLink {
+        TubeLink {
+            flags: self.flags | LINK_STOPPED,
+            ..self
+        }
+    }
+
+    /// Flags out of range count as a stop.
     fn to_second(self) -> Link {
         Link {
             wait: self.wait,
             out_length: self.out_length,
-            got: self.got,
+            got: self.got as usize,
             action: self.action,
-            held: self.held,
-            escape: self.escape != 0,
-            stopped: self.stopped != 0,
+            held: self.held as usize,
+            escape: self.flags & LINK_ESCAPE != 0,
+            stopped: self.flags >= LINK_STOPPED,
         }
     }
 
     /// The record after accepted bytes, where the record given had the out length
-    /// `given`. The number of an escape seen is free; where no OSWORD waits the out
-    /// length stays as it was given.
+    /// `given`: where no OSWORD waits it stays as it was given.
     fn shows(&self, link: &Link, given: u8) -> bool {
         let expected = TubeLink {
-            escape: match link.escape {
-                true => self.escape.max(1),
-                false => 0,
-            },
             out_length: match link.wait {
                 WAIT_BLOCK => link.out_length,
                 _ => given,
@@ -138,7 +141,7 @@ enum Property {
     InputResets,
     InputRecords,
     InputBeyond,
-    InputNumbers,
+    InputFlags,
     InputRuns,
 }
 
@@ -202,7 +205,7 @@ const PROPERTIES: [Row<Property>; 54] = [
     (Property::InputResets, "inputs: resets in each state", 1),
     (Property::InputRecords, "inputs: records of each call, action and count", 1),
     (Property::InputBeyond, "inputs: records beyond each limit", 1),
-    (Property::InputNumbers, "inputs: each escape and stopped number", 1),
+    (Property::InputFlags, "inputs: each number of flags", 1),
     (Property::InputRuns, "inputs: each start and end of a run", 1),
 ];
 
@@ -353,9 +356,7 @@ struct Seen {
     records_own: [[u64; LENT]; ACTIONS],
     /// By the limits that a record is beyond.
     beyond: [u64; FAULTS],
-    /// Numbers of an escape and of a stop.
-    escapes: [bool; 256],
-    stops: [bool; 256],
+    flags: [bool; 256],
     /// By the kind of the end, a refusal by 8 and its number.
     run_ends: [u64; 17],
     /// By what waits, open action and escape.
@@ -367,9 +368,9 @@ struct Seen {
     long_runs: [u64; 2],
 }
 
-/// The faults that a record can have: a stop, tags out of range, counts that
-/// should be 0, those of each call and of each action.
-const FAULTS: usize = 5 + CALLS as usize + 3;
+/// The faults that a record can have: a stop, tags and flags out of range, counts
+/// that should be 0, those of each call and of each action.
+const FAULTS: usize = 6 + CALLS as usize + 3;
 
 impl Seen {
     fn new() -> Box<Seen> {
@@ -389,8 +390,7 @@ impl Seen {
             records: [[0; LENT]; WAITS],
             records_own: [[0; LENT]; ACTIONS],
             beyond: [0; FAULTS],
-            escapes: [false; 256],
-            stops: [false; 256],
+            flags: [false; 256],
             run_ends: [0; 17],
             run_starts: [[[0; 2]; ACTIONS]; WAITS],
             notes: [0; NOTE],
@@ -479,28 +479,28 @@ impl Seen {
     fn step(&mut self, record: &TubeLink, told: Told) {
         let link = record.to_second();
         self.answer(1, &link, told);
-        self.stops[record.stopped as usize] = true;
+        self.flags[record.flags as usize] = true;
         if !link.stopped() {
-            self.escapes[record.escape as usize] = true;
             self.records[link.wait as usize][link.got] += 1;
             self.records_own[link.action as usize][link.held] += 1;
             return;
         }
         // Counts only records with exactly one fault.
         let mut faults = [false; FAULTS];
-        faults[0] = record.stopped != 0;
+        faults[0] = (LINK_STOPPED..2 * LINK_STOPPED).contains(&record.flags);
         faults[1] = record.wait as usize >= WAITS;
         faults[2] = record.action as usize >= ACTIONS;
-        let reply = record.got >= most(record.wait, record.out_length);
+        faults[3] = record.flags >= 2 * LINK_STOPPED;
+        let reply = link.got >= most(record.wait, record.out_length);
         match record.wait as usize {
-            0 => faults[3] = reply,
-            wait @ 1..WAITS => faults[4 + wait] = reply,
+            0 => faults[4] = reply,
+            wait @ 1..WAITS => faults[5 + wait] = reply,
             _ => {}
         }
-        let own = record.held >= most_own(record.action);
+        let own = link.held >= most_own(record.action);
         match record.action as usize {
-            0 => faults[4] = own,
-            action @ 1..ACTIONS => faults[4 + CALLS as usize + action] = own,
+            0 => faults[5] = own,
+            action @ 1..ACTIONS => faults[5 + CALLS as usize + action] = own,
             _ => {}
         }
         if faults.iter().filter(|&&fault| fault).count() == 1 {
@@ -562,10 +562,10 @@ impl Seen {
             Property::InputBeyond,
             few_beyond.map(|limit| format!("records beyond limit {limit} alone")),
         );
-        let few_numbers = (0..256).find(|&at| !self.escapes[at] || !self.stops[at]);
+        let few_flags = (0..256).find(|&at| !self.flags[at]);
         report.need(
-            Property::InputNumbers,
-            few_numbers.map(|at| format!("escape or stopped numbers {at}")),
+            Property::InputFlags,
+            few_flags.map(|at| format!("records with flags {at}")),
         );
         report.need(Property::InputRuns, self.few_runs());
     }
@@ -734,13 +734,7 @@ fn compare_byte(
     check(group.length, library.length == length, &answers);
     let (property, good) = match told {
         _ if link.stopped() => (group.stopped, after == record),
-        Told::Refused(_) => {
-            let stopped = TubeLink {
-                stopped: 1,
-                ..record
-            };
-            (group.refused, after == stopped)
-        }
+        Told::Refused(_) => (group.refused, after == record.stopped()),
         _ => (group.record, after.shows(&pair.link, record.out_length)),
     };
     check(property, good, &|| {
@@ -887,13 +881,7 @@ fn compare_run(
     });
     let (property, good) = match ran.told {
         _ if raw.is_empty() || link.stopped() => (Property::RunKept, after == record),
-        Told::Refused(_) if ran.used == 1 => {
-            let stopped = TubeLink {
-                stopped: 1,
-                ..record
-            };
-            (Property::RunRecord, after == stopped)
-        }
+        Told::Refused(_) if ran.used == 1 => (Property::RunRecord, after == record.stopped()),
         _ => (
             Property::RunRecord,
             after.shows(&pair.link, record.out_length),
@@ -1480,18 +1468,19 @@ const STEPS: u64 = 3_000_000;
 
 impl Random {
     /// A count around a limit, most often below it.
-    fn count(&mut self, limit: usize) -> usize {
-        match self.below(32) {
+    fn count(&mut self, limit: usize) -> u16 {
+        let count = match self.below(32) {
             0 => limit,
             1 => limit + 1 + self.below(20),
-            2 => self.next() as usize,
-            3 => usize::MAX - self.below(300),
+            2 => return self.next() as u16,
+            3 => return u16::MAX - self.below(300) as u16,
             // Within the limit in its lowest bits only.
-            4 => self.below(limit + 1) + (256 << self.below(40)),
+            4 => self.below(limit + 1) + (256 << self.below(8)),
             5..9 => limit.saturating_sub(1 + self.below(3)),
             9..16 => self.below(3).min(limit.saturating_sub(1)),
             _ => self.below(limit.max(1)),
-        }
+        };
+        count as u16
     }
 
     /// A record within its limits and beyond.
@@ -1521,16 +1510,11 @@ impl Random {
             held: self.count(most_own(action)),
             wait,
             out_length,
-            escape: match self.below(6) {
-                0..3 => 0,
-                3 => 1,
-                _ => self.byte(),
-            },
             action,
-            stopped: match self.below(24) {
-                0 => self.byte(),
-                1 => 1,
-                _ => 0,
+            flags: match self.below(24) {
+                0 => self.at_least(2 * LINK_STOPPED),
+                1 => LINK_STOPPED + self.below(2) as u8,
+                _ => self.below(2) as u8,
             },
         }
     }
@@ -1595,13 +1579,12 @@ fn compare_begun(
 fn compare_counts(random: &mut Random, seen: &mut Seen, report: &mut Report) {
     const RAWS: [u8; 7] = [0x9B, 0x0D, 0x00, 0x7F, 0x80, 0x41, 0xA0];
     for (tag, count, at) in every(WAITS + 2, LENT + 4, 2 * RAWS.len()) {
-        let escape = if at % 2 == 0 { 0 } else { random.at_least(1) };
         let idle = TubeLink {
-            escape,
+            flags: LINK_ESCAPE * (at % 2) as u8,
             ..unsafe { tube_link() }
         };
         let record = TubeLink {
-            got: count,
+            got: count as u16,
             wait: tag as u8,
             out_length: random.at_least(250),
             ..idle
@@ -1609,7 +1592,7 @@ fn compare_counts(random: &mut Random, seen: &mut Seen, report: &mut Report) {
         compare_step(random, record, RAWS[at / 2], seen, report);
         let waiting = random.below(WAITS) as u8;
         let record = TubeLink {
-            held: count,
+            held: count as u16,
             wait: waiting,
             out_length: 1,
             action: tag as u8,
@@ -1626,39 +1609,35 @@ fn compare_restarts(random: &mut Random, seen: &mut Seen, report: &mut Report) {
     for (wait, held, _) in every(WAITS, 4, 1000) {
         let out_length = random.at_least(1);
         let record = TubeLink {
-            got: random.below(most(wait as u8, out_length)),
-            held,
+            got: random.below(most(wait as u8, out_length)) as u16,
+            held: held as u16,
             wait: wait as u8,
             out_length,
-            escape: 0,
             action: ERROR,
-            stopped: 0,
+            flags: 0,
         };
         let raw = if random.one_in(2) { 0 } else { random.byte() };
         compare_step(random, record, raw, seen, report);
     }
 }
 
-/// Every byte in every state; every number of an escape and of a stop.
+/// Every byte in every state; every number of flags.
 fn compare_states(random: &mut Random, seen: &mut Seen, report: &mut Report) {
     for (wait, action, at) in every(WAITS + 1, ACTIONS + 1, 512) {
         let out_length = random.at_least(1);
         let record = TubeLink {
-            got: random.below(most(wait as u8, out_length)),
-            held: random.below(most_own(action as u8)),
+            got: random.below(most(wait as u8, out_length)) as u16,
+            held: random.below(most_own(action as u8)) as u16,
             wait: wait as u8,
             out_length,
-            escape: if at < 256 { 0 } else { random.at_least(1) },
             action: action as u8,
-            stopped: 0,
+            flags: if at < 256 { 0 } else { LINK_ESCAPE },
         };
         compare_step(random, record, at as u8, seen, report);
     }
     for (_, number, raw) in every(1, 256, 256) {
         let mut record = random.link_record();
-        record.escape = number as u8;
-        compare_step(random, record, raw as u8, seen, report);
-        record.stopped = number as u8;
+        record.flags = number as u8;
         compare_step(random, record, raw as u8, seen, report);
     }
 }
@@ -1670,9 +1649,9 @@ fn compare_calls(random: &mut Random, seen: &mut Seen, report: &mut Report) {
             let mut record = random.link_record();
             (record.wait, record.action) = (wait as u8, action as u8);
             if at < 5 {
-                record.stopped = 0;
-                record.got = random.below(most(record.wait, record.out_length).max(1));
-                record.held = random.below(most_own(record.action));
+                record.flags &= LINK_ESCAPE;
+                record.got = random.below(most(record.wait, record.out_length).max(1)) as u16;
+                record.held = random.below(most_own(record.action)) as u16;
             }
             let out_length = [0, 1, 255, random.byte()][random.below(4)];
             let call = match at {

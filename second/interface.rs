@@ -61,18 +61,21 @@ pub struct TubeFed {
 
 /// A link: the bytes of the reply and of the open action so far; 0 or one more
 /// than the call that waits; the open action (0 none, 1 error, 2 event, 3
-/// address). An escape was seen, or it is stopped, where that number is not 0.
+/// address); the flags.
 #[repr(C)]
 #[derive(Clone, Copy, PartialEq, Debug)]
 pub struct TubeLink {
-    pub got: usize,
-    pub held: usize,
+    pub got: u16,
+    pub held: u16,
     pub wait: u8,
     pub out_length: u8,
-    pub escape: u8,
     pub action: u8,
-    pub stopped: u8,
+    pub flags: u8,
 }
+
+// A link's flags: an escape was seen; it is stopped.
+pub const LINK_ESCAPE: u8 = 1;
+pub const LINK_STOPPED: u8 = 2;
 
 /// What a raw byte gives, by its kind.
 #[repr(C)]

@@ -431,18 +431,16 @@ static TubeLink any_link(void) {
     l.wait = below(4) ? tag(TUBE_CALLS + 1) : 1 + TUBE_OSWORD + (uint8_t)below(2);
     l.out_length = below(3) ? 255 : byte();
     l.action = tag(4);
-    l.got = l.wait > 0 ? count(l.wait <= TUBE_CALLS ? most[l.wait] : 257) : below(8) == 0 ? count(2) : 0;
-    l.held = l.action > 0 ? count(l.action < 4 ? most_own[l.action] : 257) : below(8) == 0 ? count(2) : 0;
+    l.got = (uint16_t)(l.wait > 0 ? count(l.wait <= TUBE_CALLS ? most[l.wait] : 257) : below(8) == 0 ? count(2) : 0);
+    l.held = (uint16_t)(l.action > 0 ? count(l.action < 4 ? most_own[l.action] : 257) : below(8) == 0 ? count(2) : 0);
     if (l.action == TUBE_IN_ERROR && below(3) == 0)
         l.held = 1; /* its number alone */
-    l.escape = below(2) ? 0 : byte();
-    l.stopped = below(12) ? 0 : byte();
+    l.flags = below(12) ? (uint8_t)below(2) : byte();
     return l;
 }
 
 static int same_link(TubeLink a, TubeLink b) {
-    return a.got == b.got && a.held == b.held && a.wait == b.wait && a.out_length == b.out_length && a.escape == b.escape && a.action == b.action
-           && a.stopped == b.stopped;
+    return a.got == b.got && a.held == b.held && a.wait == b.wait && a.out_length == b.out_length && a.action == b.action && a.flags == b.flags;
 }
 
 static int sound_told(TubeTold t, TubeLink given) {
@@ -450,14 +448,14 @@ static int sound_told(TubeTold t, TubeLink given) {
     case TUBE_TOLD_REPLY: return t.length > 0 && t.length <= TUBE_REPLY_LENGTH && t.first == 0;
     case TUBE_TOLD_ERROR: return t.length <= 255;
     case TUBE_TOLD_REFUSED: return t.length == 0 && t.first >= TUBE_UNKNOWN_CODE && t.first <= TUBE_BUFFER_SHORT
-                                   && (t.first < TUBE_STOPPED || same_link(t.link, given) || t.link.stopped != 0);
+                                   && (t.first < TUBE_STOPPED || same_link(t.link, given) || t.link.flags >= TUBE_LINK_STOPPED);
     default: return t.kind < TUBE_TOLD_REFUSED && t.length == 0;
     }
 }
 
 static void try_link(void) {
     TubeLink l = tube_link();
-    check(SOUND, l.got == 0 && l.held == 0 && l.wait == 0 && l.escape == 0 && l.action == 0 && l.stopped == 0);
+    check(SOUND, l.got == 0 && l.held == 0 && l.wait == 0 && l.action == 0 && l.flags == 0);
 }
 
 static void try_begin(void) {

@@ -52,12 +52,12 @@ static void layout(void) {
     expect("layout of the writers, kinds and names", sizeof(TubeWritten) == 16 && AT(TubeWritten, length, 0) && AT(TubeWritten, answer, 8)
                                                   && sizeof(TubeKind) == 2 && AT(TubeKind, call, 0) && AT(TubeKind, out_length, 1)
                                                   && sizeof(TubeName) == 16 && AT(TubeName, length, 0) && AT(TubeName, answer, 8));
-    expect("layout of the link", sizeof(TubeLink) == 24 && AT(TubeLink, got, 0) && AT(TubeLink, held, 8) && AT(TubeLink, wait, 16)
-                                     && AT(TubeLink, out_length, 17) && AT(TubeLink, escape, 18) && AT(TubeLink, action, 19) && AT(TubeLink, stopped, 20)
-                                     && sizeof(TubeTold) == 40 && AT(TubeTold, link, 0) && AT(TubeTold, length, 24) && AT(TubeTold, kind, 32)
-                                     && AT(TubeTold, first, 33) && AT(TubeTold, second, 34) && AT(TubeTold, third, 35) && AT(TubeTold, fourth, 36)
-                                     && sizeof(TubeBegun) == 32 && AT(TubeBegun, link, 0) && AT(TubeBegun, kind, 24) && AT(TubeBegun, answer, 25)
-                                     && sizeof(TubeRan) == 56 && AT(TubeRan, told, 0) && AT(TubeRan, used, 40) && AT(TubeRan, noted, 48));
+    expect("layout of the link", sizeof(TubeLink) == 8 && AT(TubeLink, got, 0) && AT(TubeLink, held, 2) && AT(TubeLink, wait, 4)
+                                     && AT(TubeLink, out_length, 5) && AT(TubeLink, action, 6) && AT(TubeLink, flags, 7)
+                                     && sizeof(TubeTold) == 24 && AT(TubeTold, link, 0) && AT(TubeTold, length, 8) && AT(TubeTold, kind, 16)
+                                     && AT(TubeTold, first, 17) && AT(TubeTold, second, 18) && AT(TubeTold, third, 19) && AT(TubeTold, fourth, 20)
+                                     && sizeof(TubeBegun) == 10 && AT(TubeBegun, link, 0) && AT(TubeBegun, kind, 8) && AT(TubeBegun, answer, 9)
+                                     && sizeof(TubeRan) == 40 && AT(TubeRan, told, 0) && AT(TubeRan, used, 24) && AT(TubeRan, noted, 32));
     expect("layout of a reply read", sizeof(TubeGiven) == 40 && AT(TubeGiven, block_start, 0) && AT(TubeGiven, block_length, 8)
                                          && AT(TubeGiven, text_start, 16) && AT(TubeGiven, text_length, 24) && AT(TubeGiven, reply, 32)
                                          && AT(TubeGiven, carry, 33) && AT(TubeGiven, x, 34) && AT(TubeGiven, y, 35) && AT(TubeGiven, a, 36));
@@ -380,8 +380,7 @@ static void requests_read(void) {
 /* ---- The link ---- */
 
 static int same_link(TubeLink a, TubeLink b) {
-    return a.got == b.got && a.held == b.held && a.wait == b.wait && a.out_length == b.out_length && a.escape == b.escape && a.action == b.action
-           && a.stopped == b.stopped;
+    return a.got == b.got && a.held == b.held && a.wait == b.wait && a.out_length == b.out_length && a.action == b.action && a.flags == b.flags;
 }
 
 static int told(TubeTold t, uint8_t kind, size_t length, uint8_t first, uint8_t second, uint8_t third, uint8_t fourth) {
@@ -402,17 +401,18 @@ static TubeLink odd_link(int i) {
     switch (i) {
     case 0: odd.wait = TUBE_CALLS + 1; break;
     case 1: odd.action = TUBE_IN_ADDRESS + 1; break;
-    case 2: odd.stopped = 9; break;
+    case 2: odd.flags = TUBE_LINK_STOPPED; break;
     case 3: odd.got = 1; break;
-    case 4: odd.held = SIZE_MAX; break;
+    case 4: odd.held = UINT16_MAX; break;
     case 5: odd.wait = 1 + TUBE_OSBGET, odd.got = 2; break;
     case 6: odd.action = TUBE_IN_ERROR, odd.held = TUBE_OWN_LENGTH; break;
+    case 7: odd.flags = TUBE_LINK_STOPPED + TUBE_LINK_ESCAPE + 1; break;
     default: odd.wait = 1 + TUBE_OSWORD; break; /* with out length 0 */
     }
     return odd;
 }
 
-enum { ODD_LINKS = 8 };
+enum { ODD_LINKS = 9 };
 
 static void calls_begun(void) {
     const TubeLink fresh = tube_link();
@@ -449,7 +449,7 @@ static void steps(void) {
     int characters = 1;
     for (int i = 0; i < 256; i++) {
         TubeTold t = tube_link_step(fresh, (uint8_t)i, reply, own);
-        characters = characters && (i == TUBE_ESCAPE_BYTE ? told(t, TUBE_TOLD_MORE, 0, 0, 0, 0, 0) && t.link.escape == 1
+        characters = characters && (i == TUBE_ESCAPE_BYTE ? told(t, TUBE_TOLD_MORE, 0, 0, 0, 0, 0) && t.link.flags == TUBE_LINK_ESCAPE
                                                           : told(t, TUBE_TOLD_CHARACTER, 0, (uint8_t)i, 0, 0, 0) && same_link(t.link, fresh));
     }
     TubeTold doubled = stepped(fresh, (const uint8_t[2]){0x9B, 0x9B}, 2, reply, own);
@@ -465,7 +465,7 @@ static void steps(void) {
     memset(error + 3, 'x', 256);
     own = lend(&two);
     TubeTold six = stepped(waits, error, sizeof error, reply, own);
-    int refused = told(six, TUBE_TOLD_REFUSED, 0, TUBE_STRING_LONG, 0, 0, 0) && six.link.stopped == 1 && six.link.held == 256 && kept(&two, 0, 256);
+    int refused = told(six, TUBE_TOLD_REFUSED, 0, TUBE_STRING_LONG, 0, 0, 0) && six.link.flags == TUBE_LINK_STOPPED && six.link.held == 256 && kept(&two, 0, 256);
     error[sizeof error - 1] = 0;
     own = lend(&two);
     TubeTold longest = stepped(waits, error, sizeof error, reply, own);
@@ -474,13 +474,12 @@ static void steps(void) {
     expect("tube_link_step: errors of 255 and 0 bytes and a restart end the call", ends && told(restart, TUBE_TOLD_RESTART, 0, 0, 0, 0, 0) && same_link(restart.link, fresh)
                                                                                        && told(empty, TUBE_TOLD_ERROR, 0, 1, 0, 0, 0) && kept(&one, 0, 0));
     TubeLink stopped = waits;
-    stopped.escape = 1;
-    stopped.stopped = 1;
+    stopped.flags = TUBE_LINK_ESCAPE + TUBE_LINK_STOPPED;
     own = lend(&two);
     TubeTold four = stepped(waits, (const uint8_t[2]){0x9B, 0x01}, 2, reply, own);
     refused = refused && told(four, TUBE_TOLD_REFUSED, 0, TUBE_UNKNOWN_CODE, 0, 0, 0) && same_link(four.link, stopped) && kept(&two, 0, 0);
     TubeTold five = stepped(waits, (const uint8_t[4]){0x9B, 0x90, 0x9B, 0x80}, 4, reply, own);
-    expect("tube_link_step: refusals 4, 5, 6 stop the link", refused && told(five, TUBE_TOLD_REFUSED, 0, TUBE_MARK_INSIDE, 0, 0, 0) && five.link.stopped == 1);
+    expect("tube_link_step: refusals 4, 5, 6 stop the link", refused && told(five, TUBE_TOLD_REFUSED, 0, TUBE_MARK_INSIDE, 0, 0, 0) && five.link.flags == TUBE_LINK_ESCAPE + TUBE_LINK_STOPPED);
 
     static uint8_t line[TUBE_REPLY_LENGTH];
     memset(line, 'x', sizeof line);

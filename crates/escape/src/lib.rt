@@ -34,15 +34,14 @@ impl Piece {
     {
         if seen {
             if raw == Piece::ESCAPE {
-                Piece::Data(Piece::ESCAPE)
-            } else {
-                Piece::Mark(raw)
+                return Piece::Data(raw);
             }
-        } else if raw == Piece::ESCAPE {
-            Piece::Pending
-        } else {
-            Piece::Data(raw)
+            return Piece::Mark(raw);
         }
+        if raw == Piece::ESCAPE {
+            return Piece::Pending;
+        }
+        Piece::Data(raw)
     }
 }
 

@@ -1,8 +1,8 @@
 -- The conversions between a link and its flat record, there and back, and those of a kind.
-use Prim.Native.Nat.{ℕ, zero, suc, _-_, _≤_, _<_}
+use Prim.Native.Nat.{ℕ, zero, suc, _+_, _-_, _≤_, _<_}
 use native.Mathlib.Omega.{arith}
 use mathlib.Core.Path.{_≡_, refl, ap, _∙_}
-use mathlib.Core.Bool.{true}
+use mathlib.Core.Bool.{Bool, true, false, _&&_}
 use mathlib.Core.List.{List}
 use borrow.Author.Tests.{leb-true, le-leb}
 use lib.Dec.{leb}
@@ -18,10 +18,11 @@ use Rattle.link.specs.declared.Doing.{Doing}
 use Rattle.link.specs.declared.Doing.the-variants.{Quiet, Open}
 use Rattle.link.specs.declared.Link.{Link}
 use Rattle.link.specs.View.{viewOf}
-use Rattle.flat.proofs.Flags.{not-zero, flag-back, flag-same}
+use Rattle.flat.specs.Flat.{flagNumber}
+use Rattle.flat.proofs.Flags.{not-zero}
 use Rattle.flat_link.specs.declared.FlatLink.{FlatLink}
 use Rattle.flat_link.specs.Kinds.{kindAt, kindNumber, kindOut, Flat-kind-done}
-use Rattle.flat_link.specs.Links.{waitAt, doingAt, linkOf, tagsOk, flatView, waitNumber, waitOut, doingNumber, flatOf}
+use Rattle.flat_link.specs.Links.{waitAt, doingAt, seenAt, stoppedAt, linkOf, tagsOk, flatView, waitNumber, waitOut, doingNumber, flagsNumber, flatOf}
 
 before-suc : (n : ℕ) → suc n - 1 ≡ n
 before-suc n = omega arith
@@ -63,9 +64,30 @@ doing-back (Open Error) = refl
 doing-back (Open Event) = refl
 doing-back (Open Address) = refl
 
+seen-back : (seen stopped : Bool) → seenAt (flagsNumber seen stopped) ≡ seen
+seen-back true true = refl
+seen-back true false = refl
+seen-back false true = refl
+seen-back false false = refl
+
+stopped-back : (seen stopped : Bool) → stoppedAt (flagsNumber seen stopped) ≡ stopped
+stopped-back true true = refl
+stopped-back true false = refl
+stopped-back false true = refl
+stopped-back false false = refl
+
 link-back : (f : FlatLink) (l : Link) → linkOf (flatOf f l) ≡ l
 link-back f l =
-    rw (wait-back (f .«out_length») (l .wait), flag-back (f .escape) (l .escape), doing-back (l .doing), flag-back (f .stopped) (l .stopped))
+    rw (wait-back (f .«out_length») (l .wait), seen-back (l .escape) (l .stopped), doing-back (l .doing), stopped-back (l .escape) (l .stopped))
+
+-- the flags of a link: a stopped one has two more
+pub flag-low : (set : Bool) → flagNumber 0 set ≤ 1
+flag-low true = omega arith
+flag-low false = omega arith
+
+pub two-more : (seen : Bool) → flagsNumber seen true ≡ flagsNumber seen false + 2
+two-more true = refl
+two-more false = refl
 
 -- the numbers of a link are in range, so that its flat record stands for what it stands for
 kind-tag : (k : CallKind) → kindNumber k ≤ 12
@@ -93,9 +115,15 @@ doing-tag (Open Error) = refl
 doing-tag (Open Event) = refl
 doing-tag (Open Address) = refl
 
+flags-tag : (seen stopped : Bool) → leb (flagsNumber seen stopped) 3 ≡ true
+flags-tag true true = refl
+flags-tag true false = refl
+flags-tag false true = refl
+flags-tag false false = refl
+
 pub flat-view : (f : FlatLink) (l : Link) (reply own : List ℕ) → flatView (flatOf f l) reply own ≡ viewOf l reply own
 unfolding tagsOk
-flat-view f l reply own = rw (wait-tag (l .wait), doing-tag (l .doing)) (ap (λ (q : Link). viewOf q reply own) (link-back f l))
+flat-view f l reply own = rw (wait-tag (l .wait), doing-tag (l .doing), flags-tag (l .escape) (l .stopped)) (ap (λ (q : Link). viewOf q reply own) (link-back f l))
 
 -- from a flat record and back
 abbrev KindSame : ℕ → ℕ → Type 0
@@ -116,12 +144,17 @@ doing-same : (n : ℕ) → leb n 3 ≡ true → doingNumber (doingAt n) ≡ n
 unfolding Each
 doing-same n h = each (λ (n : ℕ). doingNumber (doingAt n) ≡ n) 4 (refl, (refl, (refl, (refl, tt)))) n (omega (arith, leb-true n 3 h))
 
+flags-same : (n : ℕ) → leb n 3 ≡ true → flagsNumber (seenAt n) (stoppedAt n) ≡ n
+unfolding Each
+flags-same n h = each (λ (n : ℕ). flagsNumber (seenAt n) (stoppedAt n) ≡ n) 4 (refl, (refl, (refl, (refl, tt)))) n (omega (arith, leb-true n 3 h))
+
 pub flat-back : (f : FlatLink) → tagsOk f ≡ true → flatOf f (linkOf f) ≡ f
 unfolding tagsOk
 flat-back f ok =
-    let p = and-both (leb (f .wait) 13) (leb (f .action) 3) ok in
+    let p = and-both (leb (f .wait) 13) (leb (f .action) 3 && leb (f .flags) 3) ok in
+    let q = and-both (leb (f .action) 3) (leb (f .flags) 3) (p .1) in
     let w = wait-same (f .«out_length») (f .wait) (p .0) in
-    rw (w .0, w .1, flag-same (f .escape), doing-same (f .action) (p .1), flag-same (f .stopped))
+    rw (w .0, w .1, doing-same (f .action) (q .0), flags-same (f .flags) (q .1))
 
 -- What `kind_of` promises: only OSWORD has an out length.
 kind-lacks : (k : CallKind) → (kindNumber k ≡ 4 → ⊥) → kindOut 0 k ≡ 0

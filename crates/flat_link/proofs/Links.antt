@@ -5,7 +5,7 @@ use mathlib.Core.Path.{_≡_, refl, sym, ap, ap₂, subst, _∙_}
 use mathlib.Core.Bool.{Bool, true, false}
 use mathlib.Core.List.{List}
 use borrow.Author.Tests.{le-leb, lt-leb}
-use lib.Dec.{eqb, leb}
+use lib.Dec.{leb}
 use lib.ListN.{length}
 use Rattle.serial_rules.specs.Link as rules
 use Rattle.kind.specs.Kinds.{kindFor}
@@ -24,9 +24,9 @@ use Rattle.flat_link.specs.declared.FlatLink.{FlatLink}
 use Rattle.flat_link.specs.declared.FlatRan.{FlatRan}
 use Rattle.flat_link.specs.declared.FlatBegun.{FlatBegun}
 use Rattle.flat_link.specs.Kinds.{kindAt, lastCall}
-use Rattle.flat_link.specs.Links.{linkOf, tagsOk, flatView, flatStopped, flatOf, toldOf, flatTold, Flat-step-done, flatBegin, flatBegun, Flat-begin-done}
+use Rattle.flat_link.specs.Links.{seenAt, stoppedAt, linkOf, tagsOk, flatView, flatStopped, flatOf, toldOf, flatTold, Flat-step-done, flatBegin, flatBegun, Flat-begin-done}
 use Rattle.flat_link.specs.Runs.{flatRan, flatUnknown, Flat-run-done}
-use Rattle.flat_link.proofs.Conversions.{flat-view, flat-back}
+use Rattle.flat_link.proofs.Conversions.{two-more, flat-view, flat-back}
 
 -- The flat result of an answer: its report, its record, and a refusal is one of the answer.
 told-is : (f : FlatLink) (a : Answer) (reply own : List ℕ) → toldOf (flatTold f a) reply own ≡ reportOf a reply own
@@ -63,17 +63,19 @@ refusal-is f (variant.Error n k) e = absurd (omega (arith, e))
 refusal-is f variant.Restart e = absurd (omega (arith, e))
 refusal-is f (variant.Refused n) e = refl
 
--- a link that is not stopped has the number 0, so that its record stopped is the one given with 1
-not-stopped : (f : FlatLink) (reply own : List ℕ) → tagsOk f ≡ true → (flatView f reply own ≡ rules.stopped → ⊥) → eqb (f .stopped) 0 ≡ true
+-- a link that is not stopped has flags below 2, so that its record stopped is the one given with 2 more
+not-stopped : (f : FlatLink) (reply own : List ℕ) → tagsOk f ≡ true → (flatView f reply own ≡ rules.stopped → ⊥) → stoppedAt (f .flags) ≡ false
 unfolding usableOf
-not-stopped f reply own ok live = go (eqb (f .stopped) 0) refl
+not-stopped f reply own ok live = go (stoppedAt (f .flags)) refl
   where
-    go : (t : Bool) → eqb (f .stopped) 0 ≡ t → eqb (f .stopped) 0 ≡ true
-    go true e = e
-    go false e = absurd (live (rw (ok, e)))
+    go : (t : Bool) → stoppedAt (f .flags) ≡ t → stoppedAt (f .flags) ≡ false
+    go true e = absurd (live (rw (ok, e)))
+    go false e = e
 
-stopped-flat : (f : FlatLink) → tagsOk f ≡ true → eqb (f .stopped) 0 ≡ true → flatOf f (stoppedFrom (linkOf f)) ≡ flatStopped f
-stopped-flat f ok z = let e : flatOf f (stoppedFrom (linkOf f)) ≡ flatStopped (flatOf f (linkOf f)) = rw z in e ∙ ap flatStopped (flat-back f ok)
+stopped-flat : (f : FlatLink) → tagsOk f ≡ true → stoppedAt (f .flags) ≡ false → flatOf f (stoppedFrom (linkOf f)) ≡ flatStopped f
+stopped-flat f ok z =
+    let e : flatOf f (stoppedFrom (linkOf f)) ≡ flatStopped (flatOf f (linkOf f)) = rw (z, two-more (seenAt (f .flags))) in
+    e ∙ ap flatStopped (flat-back f ok)
 
 -- a step of the link, flat
 pub step-flat : {f : FlatLink} {reply own reply-left own-left : List ℕ} {x : ℕ} {s : Stepped} → tagsOk f ≡ true

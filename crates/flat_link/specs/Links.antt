@@ -1,5 +1,5 @@
 -- A link as a flat record, for callers in C: numbers for its enums and bools, with total conversions; and what a step and a begun call promise.
-use Prim.Native.Nat.{ℕ, suc, _-_}
+use Prim.Native.Nat.{ℕ, suc, _+_, _-_, _%_}
 use mathlib.Core.Path.{_≡_}
 use mathlib.Core.Bool.{Bool, cond, not, _&&_}
 use mathlib.Core.List.{List}
@@ -30,26 +30,34 @@ waitAt n out = cond (eqb n 0) Idle (Waiting (kindAt (n - 1) out))
 abbrev pub doingAt : ℕ → Doing
 doingAt n = cond (eqb n 0) Quiet (cond (eqb n 1) (Open Error) (cond (eqb n 2) (Open Event) (Open Address)))
 
--- the link of a flat record: an escape was seen, and the link is stopped, where the number is not 0
+-- the flags: 1 where an escape was seen, 2 where the link is stopped, 3 where both are
+abbrev pub seenAt : ℕ → Bool
+seenAt n = eqb (n % 2) 1
+
+abbrev pub stoppedAt : ℕ → Bool
+stoppedAt n = leb 2 n
+
+-- the link of a flat record
 abbrev pub linkOf : FlatLink → Link
 linkOf f =
-    record { wait = waitAt (f .wait) (f .«out_length»); got = f .got; escape = not (eqb (f .escape) 0); doing = doingAt (f .action); held = f .held; stopped = not (eqb (f .stopped) 0) }
+    record { wait = waitAt (f .wait) (f .«out_length»); got = f .got; escape = seenAt (f .flags); doing = doingAt (f .action); held = f .held; stopped = stoppedAt (f .flags) }
 
 unfoldable pub tagsOk : FlatLink → Bool
-tagsOk f = leb (f .wait) 13 && leb (f .action) 3
+tagsOk f = leb (f .wait) 13 && (leb (f .action) 3 && leb (f .flags) 3)
 
 -- the rules' link that a flat record and its lent bytes stand for: a number out of range makes it a stopped one
 abbrev pub flatView : FlatLink → List ℕ → List ℕ → rules.Link
 flatView f reply own = cond (tagsOk f) (viewOf (linkOf f) reply own) rules.stopped
 
 abbrev pub freshLink : FlatLink
-freshLink = record { got = 0; held = 0; wait = 0; «out_length» = 0; escape = 0; action = 0; stopped = 0 }
+freshLink = record { got = 0; held = 0; wait = 0; «out_length» = 0; action = 0; flags = 0 }
 
+-- a record of a link that is not stopped, stopped
 abbrev pub flatStopped : FlatLink → FlatLink
-flatStopped f = record { got = f .got; held = f .held; wait = f .wait; «out_length» = f .«out_length»; escape = f .escape; action = f .action; stopped = 1 }
+flatStopped f = record { got = f .got; held = f .held; wait = f .wait; «out_length» = f .«out_length»; action = f .action; flags = f .flags + 2 }
 
--- The flat record of a link, beside the record given. A number of that one that stands for the same stays, so that a link unchanged is a
--- record unchanged: that of a seen escape and of a stopped link, and the out length where no OSWORD waits.
+-- The flat record of a link, beside the record given, whose out length stays where no OSWORD waits, so that a link unchanged is a record
+-- unchanged.
 abbrev pub waitNumber : Wait → ℕ
 waitNumber Idle = 0
 waitNumber (Waiting kind) = suc (kindNumber kind)
@@ -64,9 +72,12 @@ doingNumber (Open Error) = 1
 doingNumber (Open Event) = 2
 doingNumber (Open Address) = 3
 
+abbrev pub flagsNumber : Bool → Bool → ℕ
+flagsNumber seen stopped = cond stopped (cond seen 3 2) (cond seen 1 0)
+
 abbrev pub flatOf : FlatLink → Link → FlatLink
 flatOf f l =
-    record { got = l .got; held = l .held; wait = waitNumber (l .wait); «out_length» = waitOut (f .«out_length») (l .wait); escape = flagNumber (f .escape) (l .escape); action = doingNumber (l .doing); stopped = flagNumber (f .stopped) (l .stopped) }
+    record { got = l .got; held = l .held; wait = waitNumber (l .wait); «out_length» = waitOut (f .«out_length») (l .wait); action = doingNumber (l .doing); flags = flagsNumber (l .escape) (l .stopped) }
 
 -- the report of a flat result and its lent bytes, by its kind
 abbrev pub toldOf : FlatTold → List ℕ → List ℕ → rules.Report

@@ -4,7 +4,7 @@ ghost use Prim.Native.Nat.{_≤_};
 ghost use mathlib.Core.Path.{_≡_};
 ghost use Rattle.link.specs.View.{begunOf};
 ghost use Rattle.flat_link.specs.Kinds.{kindAt, kindNumber, kindOut, Flat-kind-done};
-ghost use Rattle.flat_link.specs.Links.{waitAt, doingAt, linkOf, tagsOk, freshLink, waitNumber, waitOut, doingNumber, flatOf, toldWith, flatTold, flatBegun, Flat-begin-done};
+ghost use Rattle.flat_link.specs.Links.{waitAt, doingAt, linkOf, tagsOk, freshLink, waitNumber, waitOut, doingNumber, flagsNumber, flatOf, toldWith, flatTold, flatBegun, Flat-begin-done};
 ghost use Rattle.flat_link.specs.Runs.{flatRan, flatUnknown, ranWith, Flat-run-done};
 ghost use Rattle.flat_link.specs.Replies.{replyAt, replyKnown, flatGiven, givenWith, Flat-reply-done, Flat-read-done};
 use fields::Written;
@@ -23,17 +23,16 @@ use strings::Text;
 
 // A link. `got` bytes of the reply and `held` bytes of the open action came so far. `wait` is 0 where the link is idle, else one more than the
 // number of the call that waits, OSWORD with its `out_length`; `action` is 0 where none is open, 1 for an error, 2 for an event, 3 for an
-// address; an escape was seen, and the link is stopped, where the number is not 0. A record with `wait` above 13 or `action` above 3 counts as
-// stopped.
+// address; `flags` is 1 where an escape was seen, 2 where the link is stopped, 3 where both are. A record with `wait` above 13, or `action` or
+// `flags` above 3, counts as stopped. It has eight bytes, so that it crosses to C in one register.
 #[repr(C)]
 pub struct FlatLink {
-    pub got: usize,
-    pub held: usize,
+    pub got: u16,
+    pub held: u16,
     pub wait: u8,
     pub out_length: u8,
-    pub escape: u8,
     pub action: u8,
-    pub stopped: u8,
+    pub flags: u8,
 }
 
 // What a raw byte gives: kind 0 needs more; 1 is a character (first); 2 the Escape state (first, 0 or 1); 3 an event (Y, X, A); 4 an address
@@ -102,9 +101,8 @@ pub fn fresh() -> FlatLink
         held: 0,
         wait: 0,
         out_length: 0,
-        escape: 0,
         action: 0,
-        stopped: 0,
+        flags: 0,
     }
 }
 
@@ -249,14 +247,17 @@ fn flat_begun(link: FlatLink, begun: Begun) -> FlatBegun
     }
 }
 
-// Whether the numbers of what waits and of the action are in range.
+// Whether the numbers of what waits, of the action and of the flags are in range.
 fn has_tags(link: FlatLink) -> bool
     ensures { λ r. ⌜ r ≡ tagsOk link ⌝ }
 {
-    if link.wait <= 13 {
-        return link.action <= 3;
+    if 13 < link.wait {
+        return false;
     }
-    false
+    if 3 < link.action {
+        return false;
+    }
+    link.flags <= 3
 }
 
 // The link of a flat record, and its parts by number.
@@ -266,10 +267,10 @@ fn unflattened(link: FlatLink) -> Link
     Link {
         wait: wait_at(link.wait, link.out_length),
         got: link.got,
-        escape: link.escape != 0,
+        escape: link.flags % 2 == 1,
         doing: doing_at(link.action),
         held: link.held,
-        stopped: link.stopped != 0,
+        stopped: 2 <= link.flags,
     }
 }
 
@@ -297,7 +298,7 @@ fn doing_at(n: u8) -> Doing
     Doing::Open(Action::Address)
 }
 
-// The flat record of a link, beside the record given: a number of that one that still stands for the same is kept.
+// The flat record of a link, beside the record given, whose out length is kept where no OSWORD waits.
 fn flattened(given: FlatLink, link: Link) -> FlatLink
     ensures { λ r. ⌜ r ≡ flatOf given link ⌝ }
 {
@@ -308,9 +309,8 @@ fn flattened(given: FlatLink, link: Link) -> FlatLink
         held: link.held,
         wait: wait_number(wait),
         out_length: wait_out(given.out_length, wait),
-        escape: flat::flag_number(given.escape, link.escape),
         action: doing_number(doing),
-        stopped: flat::flag_number(given.stopped, link.stopped),
+        flags: flags_number(link.escape, link.stopped),
     }
 }
 
@@ -343,6 +343,13 @@ fn doing_number(doing: Doing) -> u8
             Action::Address => 3,
         },
     }
+}
+
+fn flags_number(escape: bool, stopped: bool) -> u8
+    ensures { λ r. ⌜ r ≡ flagsNumber escape stopped ⌝ }
+{
+    let seen = flat::flag_number(0, escape);
+    if stopped { seen + 2 } else { seen }
 }
 
 // The kind of a finished request: see `kind::CallKind::of_request`.

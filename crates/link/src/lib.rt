@@ -37,10 +37,10 @@ pub enum Doing {
 // A record over its limits counts as stopped.
 pub struct Link {
     pub wait: Wait,
-    pub got: usize,
+    pub got: u16,
     pub escape: bool,
     pub doing: Doing,
-    pub held: usize,
+    pub held: u16,
     pub stopped: bool,
 }
 
@@ -165,8 +165,10 @@ impl Link {
         }
         let wait = self.wait;
         let doing = self.doing;
-        if self.got < reply_room(wait) {
-            return self.held < own_room(doing);
+        let got = self.got as usize;
+        let held = self.held as usize;
+        if got < reply_room(wait) {
+            return held < own_room(doing);
         }
         false
     }
@@ -247,16 +249,17 @@ impl Link {
         ensures { λ r. ⌜ Reply-done self (now (reply .entry)) b r (now (reply .exit)) ⌝ }
     {
         let got = self.got;
-        let turn = kind.shape().turn(got, b);
+        let at = got as usize;
+        let turn = kind.shape().turn(at, b);
         match turn {
             Turn::Refused(n) => self.refused(n),
             Turn::More => {
-                reply[got] = b;
+                reply[at] = b;
                 resting(Answer::More, Wait::Waiting(kind), got + 1)
             }
             Turn::Done => {
-                reply[got] = b;
-                resting(Answer::Reply(got + 1), Wait::Idle, 0)
+                reply[at] = b;
+                resting(Answer::Reply(at + 1), Wait::Idle, 0)
             }
         }
     }
@@ -267,15 +270,16 @@ impl Link {
         ensures { λ r. ⌜ Own-done self (now (own .entry)) b r (now (own .exit)) ⌝ }
     {
         let held = self.held;
-        let turn = own_shape(action).turn(held, b);
+        let at = held as usize;
+        let turn = own_shape(action).turn(at, b);
         match turn {
             Turn::Refused(n) => self.refused(n),
             Turn::More => {
-                own[held] = b;
+                own[at] = b;
                 self.going(Answer::More, Doing::Open(action), held + 1)
             }
             Turn::Done => {
-                own[held] = b;
+                own[at] = b;
                 self.finished(action, own)
             }
         }
@@ -287,7 +291,10 @@ impl Link {
         ensures { λ r. ⌜ Finished-done self action (now (own .entry)) r ⌝ }
     {
         match action {
-            Action::Error => resting(failure(own[0], self.held - 1), Wait::Idle, 0),
+            Action::Error => {
+                let held = self.held as usize;
+                resting(failure(own[0], held - 1), Wait::Idle, 0)
+            }
             Action::Event => self.going(
                 Answer::Event {
                     y: own[0],
@@ -311,7 +318,7 @@ impl Link {
     }
 
     // An answer that leaves the reply at its place, with what the actions do after it and the number of own bytes.
-    fn going(self, answer: Answer, doing: Doing, held: usize) -> Stepped
+    fn going(self, answer: Answer, doing: Doing, held: u16) -> Stepped
         ensures { λ r. ⌜ r ≡ goingFrom self answer doing held ⌝ }
     {
         let kept = self.wait;
@@ -349,7 +356,7 @@ impl Link {
 }
 
 // An answer outside an action, with what waits after it and the number of its reply bytes.
-fn resting(answer: Answer, wait: Wait, got: usize) -> Stepped
+fn resting(answer: Answer, wait: Wait, got: u16) -> Stepped
     ensures { λ r. ⌜ r ≡ restingWith answer wait got ⌝ }
 {
     Stepped {

@@ -87,7 +87,7 @@ fn pass_reply(link: Link, kind: CallKind, raw: &[u8], reply: &mut [u8]) -> usize
     requires { ⌜ (usableOf link ≡ true) × (link .escape ≡ false) × (link .doing ≡ Quiet) × (link .wait ≡ Waiting kind) × (length (now reply) ≡ 257) ⌝ }
     ensures { λ r. ⌜ Pass-done link (now (reply .entry)) (now (raw .entry)) r (now (reply .exit)) ⌝ }
 {
-    let got = link.got;
+    let got = link.got as usize;
     let end = got + kind.shape().ahead(got);
     turns::copy_plain(raw, &mut reply[got..end])
 }
@@ -101,7 +101,7 @@ fn passed(link: Link, n: usize) -> Link
     let doing = link.doing;
     Link {
         wait: wait,
-        got: link.got + n,
+        got: link.got + n as u16,
         escape: link.escape,
         doing: doing,
         held: link.held,

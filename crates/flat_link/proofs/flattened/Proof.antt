@@ -9,27 +9,16 @@ wait-number-requires c κs = search needs
 wait-out-requires : tie.Need-wait-out-requires
 wait-out-requires c κs = search needs
 
-flag-number-requires : tie.Need-flag-number-requires
-flag-number-requires c κs = search needs
-
 doing-number-requires : tie.Need-doing-number-requires
 doing-number-requires c κs = search needs
 
-flag-number-requires-2 : tie.Need-flag-number-requires-2
-flag-number-requires-2 c κs = search needs
+flags-number-requires : tie.Need-flags-number-requires
+flags-number-requires c κs = search needs
 
 returns : tie.Need-returns
 returns c =
     let q = c .before .before in
-    rw (q .before .before .wait-number .ensures, q .before .wait-out .ensures, q .flag-number .ensures, c .before .doing-number .ensures, c .flag-number2 .ensures)
+    rw (q .before .wait-number .ensures, q .wait-out .ensures, c .before .doing-number .ensures, c .flags-number .ensures)
 
 pub flattened-spec : {M : Type 1} → statement M
-flattened-spec =
-    tie.close
-    (tie.spec
-    wait-number-requires
-    wait-out-requires
-    flag-number-requires
-    doing-number-requires
-    flag-number-requires-2
-    returns)
+flattened-spec = tie.close (tie.spec wait-number-requires wait-out-requires doing-number-requires flags-number-requires returns)

@@ -1,4 +1,4 @@
--- Both numbers are in range exactly where both tests pass.
+-- The numbers are in range exactly where no test finds one out of it.
 use Rattle.flat_link.specs.Links.{tagsOk}
 use borrow.Author.Tests.{le-leb, lt-leb}
 use Rattle.flat_link.proofs.has_tags.Statement.{statement}
@@ -6,11 +6,15 @@ use Rattle.flat_link.proofs.has_tags.Tie as tie
 
 returns : tie.Need-returns
 unfolding tagsOk
-returns c = rw (le-leb _ _ (c .before .if1 .taken))
+returns c = rw (lt-leb _ _ (c .if1 .taken))
 
 returns-2 : tie.Need-returns-2
 unfolding tagsOk
-returns-2 c = rw (lt-leb _ _ (c .if1 .left))
+returns-2 c = rw (le-leb _ _ (c .before .before .if1 .left), lt-leb _ _ (c .if2 .taken))
+
+returns-3 : tie.Need-returns-3
+unfolding tagsOk
+returns-3 c = rw (le-leb _ _ (c .before .before .before .if1 .left), le-leb _ _ (c .before .if2 .left))
 
 pub has-tags-spec : {M : Type 1} → statement M
-has-tags-spec = tie.close (tie.spec returns returns-2)
+has-tags-spec = tie.close (tie.spec returns returns-2 returns-3)

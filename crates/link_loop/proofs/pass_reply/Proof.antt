@@ -12,14 +12,14 @@ use Rattle.link_loop.proofs.pass_reply.Tie as tie
 
 add-end : tie.Need-add-end
 add-end c =
-    let s = c .before .before .before .before in
+    let s = c .before .before .before .before .before in
     let below = waits-below (s .args .link) (s .pre .0) (s .pre .1) (s .pre .2) (s .pre .3) in
     let h = subst (λ (x : Shape). s .args .link .got < longest x) (sym (c .before .shape .ensures)) below in
     omega (arith, c .ahead .ensures .1 h)
 
 part-copy-plain-end : tie.Need-part-copy-plain-end
 part-copy-plain-end c =
-    let s = c .before .before .before .before in
+    let s = c .before .before .before .before .before in
     let below = waits-below (s .args .link) (s .pre .0) (s .pre .1) (s .pre .2) (s .pre .3) in
     let h = subst (λ (x : Shape). s .args .link .got < longest x) (sym (c .before .shape .ensures)) below in
     omega (arith, c .ahead .ensures .1 h, s .pre .4)
@@ -27,7 +27,7 @@ part-copy-plain-end c =
 returns : tie.Need-returns
 returns c =
     let q = c .before .before .before .before in
-    let s = q .before .before .before .before in
+    let s = q .before .before .before .before .before in
     let below = waits-below (s .args .link) (s .pre .0) (s .pre .1) (s .pre .2) (s .pre .3) in
     let h = subst (λ (x : Shape). s .args .link .got < longest x) (sym (q .before .shape .ensures)) below in
     let is = q .ahead .ensures .0 ∙ ap (λ (x : Shape). aheadOf x (s .args .link .got)) (q .before .shape .ensures) in
@@ -37,6 +37,7 @@ pub pass-reply-spec : {M : Type 1} → statement M
 pass-reply-spec =
     tie.close
     (tie.spec
+    (λ c. search needs)
     (λ c κs. search needs)
     (λ c κs. search needs)
     add-end

@@ -44,6 +44,7 @@ pub own-step-spec : {M : Type 1} → statement M
 own-step-spec =
     tie.close
     (tie.spec
+    (λ c. search needs)
     (λ c κs. search needs)
     (λ c κs. search needs)
     (λ c. search needs)

@@ -35,6 +35,7 @@ pub taking-spec : {M : Type 1} → statement M
 taking-spec =
     tie.close
     (tie.spec
+    (λ c. search needs)
     (λ c κs. search needs)
     (λ c κs. search needs)
     (λ c. search needs)
