@@ -28,7 +28,8 @@ use Rattle.link.specs.declared.Link.{Link}
 use Rattle.link.specs.declared.Started.{Started}
 use Rattle.link.specs.View.{begunOf, fresh, Begin-done}
 use Rattle.reply.specs.declared.Reply.{Reply}
-use Rattle.reply.specs.Promise.{replyFor, Reply-done}
+use Rattle.reply.specs.Promise.{replyFor}
+use Rattle.reply_writer.specs.Promise.{Reply-done}
 use Rattle.replies.specs.Sessions.{Sessions}
 use Rattle.replies.proofs.Trips.{Answered, written-read}
 

@@ -3,10 +3,10 @@ use borrow.Author.Needs.{needs}
 use borrow.Author.Tests.{lt-ltb, le-ltb}
 use denote.Ref.{now}
 use Rattle.kind.specs.Kinds.{kindFor}
 use Rattle.reply.specs.Promise.{replyFor}
-use Rattle.reply.proofs.Laws.{too-long, bad-field, wrote}
-use Rattle.reply.proofs.write_reply.Statement.{statement}
-use Rattle.reply.proofs.write_reply.Tie as tie
+use Rattle.reply_writer.proofs.Laws.{too-long, bad-field, wrote}
+use Rattle.reply_writer.proofs.write_reply.Statement.{statement}
+use Rattle.reply_writer.proofs.write_reply.Tie as tie
 
 returns-2 : tie.Need-returns-2
 returns-2 c =

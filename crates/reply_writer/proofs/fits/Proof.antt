@@ -3,9 +3,9 @@ use borrow.Author.Needs.{needs}
 use borrow.Author.Tests.{eq-eqb, ne-eqb}
 use denote.Ref.{now}
 use Rattle.fields.proofs.Wrote.{no-string}
-use Rattle.reply.specs.Parts.{partsOk}
-use Rattle.reply.proofs.fits.Statement.{statement}
-use Rattle.reply.proofs.fits.Tie as tie
+use Rattle.reply_writer.specs.Parts.{partsOk}
+use Rattle.reply_writer.proofs.fits.Statement.{statement}
+use Rattle.reply_writer.proofs.fits.Tie as tie
 
 returns : tie.Need-returns
 unfolding partsOk
