@@ -147,13 +147,13 @@ feed-flat e {left = left} {r = r} d =
 own : (f : FlatReader) {p : Reader} → tagsOk f ≡ true → p ≡ readerOf f → flatOf (f .escape) p ≡ f
 own f ok u = ap (flatOf (f .escape)) u ∙ flat-back f ok
 
-module _ {f g : FlatReader} {p : Reader} {lent left : List ℕ} {r : Fed} {o : FlatRead} (ok : tagsOk f ≡ true) (u : p ≡ readerOf f)
-    (k : g ≡ flatOf (f .escape) (r .reader)) (e : o ≡ flatRead g (r .answer)) where
+module _ {f : FlatReader} {p : Reader} {lent left : List ℕ} {r : Fed} {o : FlatRead} (ok : tagsOk f ≡ true) (u : p ≡ readerOf f)
+    (e : o ≡ flatRead (flatOf (f .escape) (r .reader)) (r .answer)) where
   pub read-byte : {x : ℕ} → Feed-done p lent (x ∷ []) r left → Flat-done f lent x o left
-  read-byte d = rw (e, k) (rw (own f ok u) at (step-flat (f .escape) (one-fed d)))
+  read-byte d = rw e (rw (own f ok u) at (step-flat (f .escape) (one-fed d)))
 
   pub read-slice : {raw : List ℕ} → Feed-done p lent raw r left → Flat-feed-done f lent raw (record { read = o; used = r .used }) left
-  read-slice d = rw (e, k) (rw (own f ok u) at (feed-flat (f .escape) d))
+  read-slice d = rw e (rw (own f ok u) at (feed-flat (f .escape) d))
 
 -- one with a tag out of range is refused
 pub out-of-range : {f : FlatReader} {lent : List ℕ} {raw : ℕ} {o : FlatRead} → tagsOk f ≡ false → o ≡ flatRead f (Refused 7) → Flat-done f lent raw o lent

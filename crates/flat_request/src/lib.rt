@@ -1,18 +1,12 @@
-// The request reader and writer as flat records: numbers for the enums and the bools, with total conversions, so that they can cross to C.
+// The request reader as a flat record: numbers for the enums and the bools, with total conversions, so that it can cross to C.
 ghost use mathlib.Core.Path.{_≡_};
-ghost use Rattle.request_reader.specs.View.{carrierOf};
-ghost use Rattle.request_writer.specs.Promise.{Request-done};
 ghost use Rattle.flat_request.specs.Readers.{carrierAt, phaseAt, carrierNumber, phaseNumber, readerOf, flatOf, flatRead, flatPlain, tagsOk, freshReader, Flat-done};
 ghost use Rattle.flat_request.specs.Feeds.{Flat-feed-done};
-ghost use Rattle.flat_request.specs.Calls.{callAt, callKnown, Flat-request-done};
-use fields::Written;
-use flat::FlatWritten;
 use request_reader::Answer;
 use request_reader::Carrier;
+use request_reader::Fed;
 use request_reader::Phase;
 use request_reader::Reader;
-use request_writer::Call;
-use strings::Text;
 
 // A request reader with numbers for its enums: carrier 0 serial, 1 parallel; phase 0 outside a request, 1 inside, 2 stopped; an
 // escape was seen where its number is not 0. A number out of range makes a reader that counts as stopped.
@@ -65,10 +59,7 @@ pub fn read(reader: FlatReader, raw: u8, body: &mut [u8; 273]) -> FlatRead
 {
     if has_tags(reader) {
         let one = [raw];
-        let fed = unflattened(reader).feed(&one, body);
-        let answer = fed.answer;
-        let next = fed.reader;
-        return flat_read(flattened(reader.escape, next), answer);
+        return flat_answer(reader.escape, unflattened(reader).feed(&one, body));
     }
     flat_read(reader, Answer::Refused(7))
 }
@@ -79,10 +70,8 @@ pub fn feed(reader: FlatReader, raw: &[u8], body: &mut [u8; 273]) -> FlatFed
 {
     if has_tags(reader) {
         let fed = unflattened(reader).feed(raw, body);
-        let answer = fed.answer;
-        let next = fed.reader;
         return FlatFed {
-            read: flat_read(flattened(reader.escape, next), answer),
+            read: flat_answer(reader.escape, fed),
             used: fed.used,
         };
     }
@@ -96,6 +85,15 @@ pub fn feed(reader: FlatReader, raw: &[u8], body: &mut [u8; 273]) -> FlatFed
         read: flat_read(reader, Answer::Refused(7)),
         used: 1,
     }
+}
+
+// The flat result of what a slice gave; `given` is the number of the escape that the caller's record had.
+fn flat_answer(given: u8, fed: Fed) -> FlatRead
+    ensures { λ r. ⌜ r ≡ flatRead (flatOf given (fed .reader)) (fed .answer) ⌝ }
+{
+    let answer = fed.answer;
+    let next = fed.reader;
+    flat_read(flattened(given, next), answer)
 }
 
 // The flat result of an answer.
@@ -213,103 +211,4 @@ fn phase_number(phase: Phase) -> u8
         Phase::Inside => 1,
         Phase::Stopped => 2,
     }
-}
-
-// Writes a request: see `request_writer::write_serial` (carrier 0) and `write_parallel` (1). The calls are numbered in the order of
-// `request_writer::Call`, from 0; another carrier or call is a field that breaks its rule. A number that the call does not have is not read.
-pub fn write_request(
-    carrier: u8,
-    style: u8,
-    call: u8,
-    x: u8,
-    y: u8,
-    a: u8,
-    out_length: u8,
-    block: &[u8],
-    text: &[u8],
-    out: &mut [u8],
-) -> FlatWritten
-    ensures { λ r. ⌜ Flat-request-done carrier style call (callAt call x y a «out_length») (now (block .entry)) (now (text .entry)) (now (out .entry)) r (now (out .exit)) ⌝ }
-{
-    if call_known(carrier, call) {
-        let given = call_at(call, x, y, a, out_length);
-        return flat::flat_written(write_on(carrier, style, given, block, text, out));
-    }
-    if Text::LIMIT < text.len() {
-        return flat::flat_written(Written::TooLong);
-    }
-    flat::flat_written(Written::BadField)
-}
-
-// Whether the numbers of the carrier and of the call are in range.
-fn call_known(carrier: u8, call: u8) -> bool
-    ensures { λ r. ⌜ r ≡ callKnown carrier call ⌝ }
-{
-    if carrier <= 1 {
-        return call <= 12;
-    }
-    false
-}
-
-// Writes on the carrier of that number.
-fn write_on(
-    carrier: u8,
-    style: u8,
-    call: Call,
-    block: &[u8],
-    text: &[u8],
-    out: &mut [u8],
-) -> Written
-    ensures { λ r. ⌜ Request-done (carrierOf (carrierAt carrier)) style call (now (block .entry)) (now (text .entry)) (now (out .entry)) r (now (out .exit)) ⌝ }
-{
-    if carrier == 0 {
-        return request_writer::write_serial(style, call, block, text, out);
-    }
-    request_writer::write_parallel(style, call, block, text, out)
-}
-
-// The call of a number, with the numbers that it has.
-fn call_at(number: u8, x: u8, y: u8, a: u8, out_length: u8) -> Call
-    ensures { λ r. ⌜ r ≡ callAt number x y a «out_length» ⌝ }
-{
-    if number == 0 {
-        return Call::Osrdch;
-    }
-    if number == 1 {
-        return Call::Oscli;
-    }
-    if number == 2 {
-        return Call::OsbyteLow { x: x, a: a };
-    }
-    if number == 3 {
-        return Call::OsbyteHigh { x: x, y: y, a: a };
-    }
-    if number == 4 {
-        return Call::Osword {
-            a: a,
-            out_length: out_length,
-        };
-    }
-    if number == 5 {
-        return Call::Osword0;
-    }
-    if number == 6 {
-        return Call::Osargs { y: y, a: a };
-    }
-    if number == 7 {
-        return Call::Osbget { y: y };
-    }
-    if number == 8 {
-        return Call::Osbput { y: y, a: a };
-    }
-    if number == 9 {
-        return Call::OsfindClose { y: y };
-    }
-    if number == 10 {
-        return Call::OsfindOpen { a: a };
-    }
-    if number == 11 {
-        return Call::Osfile { a: a };
-    }
-    Call::Osgbpb { a: a }
 }

@@ -1,9 +1,9 @@
 -- With both numbers in range this is the writer; else the two refusals that come before the room, in their order.
-use Rattle.flat_request.proofs.Calls.{done, too-long, bad-field}
+use Rattle.flat_request_writer.proofs.Calls.{done, too-long, bad-field}
 use mathlib.Core.Path.{sym, _∙_}
 use borrow.Author.Needs.{needs}
-use Rattle.flat_request.proofs.write_request.Statement.{statement}
-use Rattle.flat_request.proofs.write_request.Tie as tie
+use Rattle.flat_request_writer.proofs.write_request.Statement.{statement}
+use Rattle.flat_request_writer.proofs.write_request.Tie as tie
 
 call-known-requires : tie.Need-call-known-requires
 call-known-requires c κs = search needs

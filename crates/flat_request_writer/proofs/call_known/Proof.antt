@@ -1,8 +1,8 @@
 -- Both numbers are in range exactly where both tests pass.
-use Rattle.flat_request.specs.Calls.{callKnown}
+use Rattle.flat_request_writer.specs.Calls.{callKnown}
 use borrow.Author.Tests.{le-leb, lt-leb}
-use Rattle.flat_request.proofs.call_known.Statement.{statement}
-use Rattle.flat_request.proofs.call_known.Tie as tie
+use Rattle.flat_request_writer.proofs.call_known.Statement.{statement}
+use Rattle.flat_request_writer.proofs.call_known.Tie as tie
 
 returns : tie.Need-returns
 unfolding callKnown

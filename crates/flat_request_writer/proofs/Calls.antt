@@ -12,8 +12,8 @@ use Rattle.fields.specs.declared.Written.the-variants.{TooLong, BadField}
 use Rattle.request_writer.specs.Promise.{Request-done}
 use Rattle.request_reader.specs.View.{carrierOf}
 use Rattle.flat.specs.declared.FlatWritten.{FlatWritten}
 use Rattle.flat_request.specs.Readers.{carrierAt}
-use Rattle.flat_request.specs.Calls.{callKnown, Flat-request-done}
+use Rattle.flat_request_writer.specs.Calls.{callKnown, Flat-request-done}
 use Rattle.flat.specs.Flat.{flatWritten}
 
 module _ {carrier style n : ℕ} {call : Call} {b t out : List ℕ} {o : FlatWritten} where

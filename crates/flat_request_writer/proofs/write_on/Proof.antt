@@ -1,8 +1,8 @@
 -- Number 0 is the serial lead; every other number is the parallel side.
 use borrow.Author.Tests.{eq-eqb, ne-eqb}
 use borrow.Author.Needs.{needs}
-use Rattle.flat_request.proofs.write_on.Statement.{statement}
-use Rattle.flat_request.proofs.write_on.Tie as tie
+use Rattle.flat_request_writer.proofs.write_on.Statement.{statement}
+use Rattle.flat_request_writer.proofs.write_on.Tie as tie
 
 write-serial-requires : tie.Need-write-serial-requires
 write-serial-requires c κs = search needs
