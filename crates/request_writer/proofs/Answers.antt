@@ -11,7 +11,7 @@ use Rattle.serial_rules.specs.Call.{Carrier, serial, parallel, stringLimit, cal
 use Rattle.serial_rules.specs.Call as rules
 use Rattle.serial_rules.proofs.Trip.{and-both}
 use Rattle.fields.specs.declared.Written.the-variants.{Done, TooLong, BadField, NoRoom}
-use Rattle.fields.specs.Carriers.{carrierOf, coded}
+use Rattle.room.specs.Carriers.{carrierOf, coded}
 use Rattle.fields.specs.Promise.{Length-done}
 use Rattle.fields.proofs.Laws.{told-done, told-none}
 use Rattle.request_writer.specs.declared.Call.{Call}

@@ -11,7 +11,7 @@ use Rattle.serial_rules.specs.Escape.{escape}
 use Rattle.serial_rules.specs.Call.{Call, osrdch, oscli, osbyteLow, osbyteHigh, osword, osword0, osargs, osbget, osbput, osfindClose, osfindOpen, osfile, osgbpb, codeOf, bodyOf, blockOk, hasString, numbersOk, hasReturn, callOk, heading, styleOk, encodingOf}
 use Rattle.serial_rules.proofs.Trip.{and-both}
 use Rattle.serial_rules.proofs.Replies.{no-text}
-use Rattle.fields.specs.Carriers.{carrierOf, coded}
+use Rattle.room.specs.Carriers.{carrierOf, coded}
 use Rattle.fields.specs.Promise.{Length-done}
 use Rattle.fields.proofs.Wrote.{no-string}
 use Rattle.request_writer.specs.declared.Call as code

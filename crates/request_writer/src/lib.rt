@@ -3,7 +3,7 @@ ghost use mathlib.Core.Path.{_≡_};
 ghost use mathlib.Core.Bool.{_&&_};
 ghost use mathlib.Core.List.{_++_};
 ghost use Rattle.serial_rules.specs.Call.{serial, parallel, heading, styleOk};
-ghost use Rattle.fields.specs.Carriers.{carrierOf, coded};
+ghost use Rattle.room.specs.Carriers.{carrierOf, coded};
 ghost use Rattle.fields.specs.Promise.{Length-done};
 ghost use Rattle.request_writer.specs.Calls.{callOf};
 ghost use Rattle.request_writer.specs.Promise.{Request-done};

@@ -1,7 +1,7 @@
 -- The heading is empty and the carrier the serial one, so the raw bytes are those of the three fields: the numbers before, the bytes in the
 -- middle, the numbers behind.
 use borrow.Author.Needs.{needs}
-use Rattle.fields.specs.Carriers.{coded}
+use Rattle.room.specs.Carriers.{coded}
 use Rattle.reply_writer.proofs.Laws.{taken}
 use Rattle.reply_writer.proofs.write_around.Statement.{statement}
 use Rattle.reply_writer.proofs.write_around.Tie as tie

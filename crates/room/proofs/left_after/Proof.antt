@@ -3,9 +3,9 @@ use native.Mathlib.Omega.{arith}
 use mathlib.Core.Path.{refl}
 use borrow.Author.Needs.{needs}
 use denote.Ref.{now}
-use Rattle.fields.proofs.Room.{none-left, short, spare}
-use Rattle.fields.proofs.left_after.Statement.{statement}
-use Rattle.fields.proofs.left_after.Tie as tie
+use Rattle.room.proofs.Room.{none-left, short, spare}
+use Rattle.room.proofs.left_after.Statement.{statement}
+use Rattle.room.proofs.left_after.Tie as tie
 
 returns-2 : tie.Need-returns-2
 returns-2 c =

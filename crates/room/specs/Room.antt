@@ -2,8 +2,8 @@
 use Prim.Native.Nat.{ℕ, _-_}
 use mathlib.Core.Bool.{cond}
 use lib.Dec.{ltb}
-use Rattle.fields.specs.declared.Left.{Left}
-use Rattle.fields.specs.declared.Left.the-variants.{Room, Short}
+use Rattle.room.specs.declared.Left.{Left}
+use Rattle.room.specs.declared.Left.the-variants.{Room, Short}
 
 -- what n bytes leave; where there was too little before, there is too little
 unfoldable pub leftOf : ℕ → Left → Left

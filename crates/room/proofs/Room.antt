@@ -8,11 +8,11 @@ use mathlib.Core.List.{List, _++_}
 use borrow.Author.Tests.{lt-ltb, le-ltb, lt-leb, le-leb, ltb-true, ltb-false, leb-true, leb-false}
 use lib.Dec.{leb, ltb}
 use lib.ListN.{length, length-append}
-use Rattle.fields.specs.declared.Left.{Left}
-use Rattle.fields.specs.declared.Left.the-variants.{Room, Short}
-use Rattle.fields.specs.Carriers.{coded, addedOn}
-use Rattle.fields.specs.Room.{leftOf}
-use Rattle.fields.proofs.Laws.{plain-parallel, coded-length, coded-most, pair-length}
+use Rattle.room.specs.declared.Left.{Left}
+use Rattle.room.specs.declared.Left.the-variants.{Room, Short}
+use Rattle.room.specs.Carriers.{coded, addedOn}
+use Rattle.room.specs.Room.{leftOf}
+use Rattle.room.proofs.Coded.{plain-parallel, coded-length, coded-most, pair-length}
 
 -- Data bytes take their length and the bytes that the carrier adds.
 module _ (flag : Bool) (l : List ℕ) {room n : ℕ} where

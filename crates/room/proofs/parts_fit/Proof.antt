@@ -2,9 +2,9 @@
 use mathlib.Core.List.{_++_}
 use borrow.Author.Needs.{needs}
 use denote.Ref.{now}
-use Rattle.fields.proofs.Room.{no-heading, doubled, behind}
-use Rattle.fields.proofs.parts_fit.Statement.{statement}
-use Rattle.fields.proofs.parts_fit.Tie as tie
+use Rattle.room.proofs.Room.{no-heading, doubled, behind}
+use Rattle.room.proofs.parts_fit.Statement.{statement}
+use Rattle.room.proofs.parts_fit.Tie as tie
 
 returns : tie.Need-returns
 returns c =

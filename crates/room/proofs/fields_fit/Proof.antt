@@ -1,9 +1,9 @@
 -- What the four fields leave of the room, one after another, is what all of them leave.
 use borrow.Author.Needs.{needs}
 use denote.Ref.{now}
-use Rattle.fields.proofs.Room.{fits, too-much}
-use Rattle.fields.proofs.fields_fit.Statement.{statement}
-use Rattle.fields.proofs.fields_fit.Tie as tie
+use Rattle.room.proofs.Room.{fits, too-much}
+use Rattle.room.proofs.fields_fit.Statement.{statement}
+use Rattle.room.proofs.fields_fit.Tie as tie
 
 returns : tie.Need-returns
 returns c =

@@ -1,8 +1,8 @@
 -- The flag tells the carrier, and only the serial lead adds bytes.
 use borrow.Author.Needs.{needs}
-use Rattle.fields.specs.Carriers.{addedOn}
-use Rattle.fields.proofs.added.Statement.{statement}
-use Rattle.fields.proofs.added.Tie as tie
+use Rattle.room.specs.Carriers.{addedOn}
+use Rattle.room.proofs.added.Statement.{statement}
+use Rattle.room.proofs.added.Tie as tie
 
 pub added-spec : {M : Type 1} → statement M
 unfolding addedOn
