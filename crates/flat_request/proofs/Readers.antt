@@ -17,12 +17,12 @@ use Rattle.request_reader.specs.declared.Reader.{Reader}
 use Rattle.request_reader.specs.declared.Answer.{Answer}
 use Rattle.request_reader.specs.declared.Answer.the-variants.{More, Character, Request, Refused}
 use Rattle.request_reader.specs.declared.Stepped.{Stepped}
-use Rattle.request_reader.specs.declared.Fed.{Fed}
+use Rattle.request_loop.specs.declared.Fed.{Fed}
 use Rattle.request_reader.specs.View.{carrierOf, viewOf, answerOf, lentAfter, Step-done}
 use Rattle.request_reader.specs.Read.{Read}
 use Rattle.request_reader.specs.Read as reads
-use Rattle.request_reader.specs.Feed.{told, Feed-done}
-use Rattle.request_reader.proofs.Feed.{one-fed}
+use Rattle.request_loop.specs.Feed.{told, Feed-done}
+use Rattle.request_loop.proofs.Feeds.{one-fed}
 use Rattle.flat.proofs.Flags.{flag-back, flag-same}
 use Rattle.flat_request.specs.declared.FlatReader.{FlatReader}
 use Rattle.flat_request.specs.declared.FlatRead.{FlatRead}

@@ -2,9 +2,9 @@
 ghost use mathlib.Core.Path.{_≡_};
 ghost use Rattle.flat_request.specs.Readers.{carrierAt, phaseAt, carrierNumber, phaseNumber, readerOf, flatOf, flatRead, flatPlain, tagsOk, freshReader, Flat-done};
 ghost use Rattle.flat_request.specs.Feeds.{Flat-feed-done};
+use request_loop::Fed;
 use request_reader::Answer;
 use request_reader::Carrier;
-use request_reader::Fed;
 use request_reader::Phase;
 use request_reader::Reader;
 
@@ -53,23 +53,26 @@ pub fn fresh(carrier: u8) -> FlatReader
     }
 }
 
-// One raw byte, as a slice: so `Reader::feed` stays the one caller of `Reader::step`, which is what makes it fast (docs/DECISIONS.md, 'Speed').
+// One raw byte, as a slice: so `request_loop::feed` stays the one caller of `Reader::step`, which is what makes it fast (docs/DECISIONS.md, 'Speed').
 pub fn read(reader: FlatReader, raw: u8, body: &mut [u8; 273]) -> FlatRead
     ensures { λ r. ⌜ Flat-done reader (now (body .entry)) raw r (now (body .exit)) ⌝ }
 {
     if has_tags(reader) {
         let one = [raw];
-        return flat_answer(reader.escape, unflattened(reader).feed(&one, body));
+        return flat_answer(
+            reader.escape,
+            request_loop::feed(unflattened(reader), &one, body),
+        );
     }
     flat_read(reader, Answer::Refused(7))
 }
 
-// Raw bytes up to the first answer that is not need-more: see `request_reader::Reader::feed`.
+// Raw bytes up to the first answer that is not need-more: see `request_loop::feed`.
 pub fn feed(reader: FlatReader, raw: &[u8], body: &mut [u8; 273]) -> FlatFed
     ensures { λ r. ⌜ Flat-feed-done reader (now (body .entry)) (now (raw .entry)) r (now (body .exit)) ⌝ }
 {
     if has_tags(reader) {
-        let fed = unflattened(reader).feed(raw, body);
+        let fed = request_loop::feed(unflattened(reader), raw, body);
         return FlatFed {
             read: flat_answer(reader.escape, fed),
             used: fed.used,

@@ -1,15 +1,15 @@
 -- The invariant: the first `i` raw bytes were read in a chain of steps, and each needed more. A turn adds one step at its end, and the run of plain bytes behind it; any other answer ends the loop.
-use Rattle.request_reader.proofs.Feed.{passes, pass-within, again, answered, needs-more}
-use Rattle.request_reader.proofs.Plains.{still-within}
+use Rattle.request_loop.proofs.Feeds.{passes, pass-within, again, answered, needs-more}
+use Rattle.request_loop.proofs.Plains.{still-within}
 use denote.Ref.{now}
 use Prim.Native.Nat.{_+_, _≤_, _-_}
 use native.Mathlib.Omega.{arith}
 use lib.ListN.{length, take, replicate}
 use borrow.Author.Needs.{needs}
 use Rattle.serial_rules.specs.Reader as rules
 use Rattle.request_reader.specs.Read.{Read, stop}
-use Rattle.request_reader.proofs.Reader.feed.Statement.{statement}
-use Rattle.request_reader.proofs.Reader.feed.Tie as tie
+use Rattle.request_loop.proofs.feed.Statement.{statement}
+use Rattle.request_loop.proofs.feed.Tie as tie
 
 abbrev Inv-loop : tie.InvT-loop
 Inv-loop raw body₀ at₀ i₀ body at i = (i ≤ length raw) × Read at₀ body₀ (take i raw) (replicate i rules.needMore) at body

@@ -17,18 +17,18 @@ use Rattle.serial_rules.specs.Body.{Turn, more, done, refused, bodyTurn, longes
 use Rattle.serial_rules.specs.Reader as rules
 use Rattle.turns.specs.Plain.{plain, Plains, none, one, Plain-done}
 use Rattle.turns.proofs.Plain.{no-escape, done-plains, done-most, part-sets}
 use Rattle.request_reader.specs.declared.Phase.{Phase}
 use Rattle.request_reader.specs.declared.Phase.the-variants.{Inside}
 use Rattle.request_reader.specs.declared.Reader.{Reader}
 use Rattle.request_reader.specs.declared.Answer.the-variants.{More}
 use Rattle.request_reader.specs.declared.Stepped.{Stepped}
 use Rattle.request_reader.specs.View.{carrierOf, within, viewOf, answerOf, Step-done}
 use Rattle.bodies.specs.Ahead.{aheadIn}
 use Rattle.bodies.proofs.Middle.{Ahead-done, ahead-holds}
 use Rattle.request_reader.specs.Read.{Read, stop, took}
-use Rattle.request_reader.specs.Pass.{passedFrom, Pass-done}
+use Rattle.request_loop.specs.Pass.{passedFrom, Pass-done}
 use Rattle.request_reader.proofs.Limits.{longest-fits}
 use Rattle.request_reader.proofs.Steps.{within-style, within-count, taken, inside-data, data-goes, at-inside}
 
 -- a plain byte is data in itself, on either carrier
 data-in-itself : (c : Carrier) (b : ℕ) → plain b ≡ true → rules.pieceInside c false b ≡ dataByte b

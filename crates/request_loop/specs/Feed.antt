@@ -4,12 +4,12 @@ use mathlib.Core.Path.{_≡_}
 use mathlib.Core.List.{List, [], _∷_, _++_}
 use lib.ListN.{length, take, replicate}
 use Rattle.serial_rules.specs.Reader as rules
 use Rattle.request_reader.specs.declared.Reader.{Reader}
 use Rattle.request_reader.specs.declared.Answer.{Answer}
 use Rattle.request_reader.specs.declared.Answer.the-variants.{More, Character, Request, Refused}
-use Rattle.request_reader.specs.declared.Fed.{Fed}
+use Rattle.request_loop.specs.declared.Fed.{Fed}
 use Rattle.request_reader.specs.View.{answerOf}
 use Rattle.request_reader.specs.Read.{Read}
 
 -- the answer that ended the reading, where one did
 abbrev pub lastOf : Answer → List ℕ → List rules.Answer

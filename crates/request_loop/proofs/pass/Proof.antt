@@ -1,12 +1,12 @@
 -- With an escape seen, or outside a request, no byte is passed over; else it is the body's turn.
 use denote.Ref.{now}
-use Rattle.request_reader.proofs.Plains.{passes-none}
+use Rattle.request_loop.proofs.Plains.{passes-none}
 use borrow.Author.Needs.{needs}
-use Rattle.request_reader.proofs.Reader.pass.Statement.{statement}
-use Rattle.request_reader.proofs.Reader.pass.Tie as tie
+use Rattle.request_loop.proofs.pass.Statement.{statement}
+use Rattle.request_loop.proofs.pass.Tie as tie
 
 returns : tie.Need-returns
-returns c = let a = c .before .before .before .args in passes-none (a .self) (now (a .body)) (now (a .raw))
+returns c = let a = c .before .before .before .args in passes-none (a .reader) (now (a .body)) (now (a .raw))
 
 pass-body-requires : tie.Need-pass-body-requires
 pass-body-requires c κs =
@@ -15,10 +15,10 @@ pass-body-requires c κs =
     (inside, s .pre .0 inside, c .before .before .before .if1 .left, search needs)
 
 returns-2 : tie.Need-returns-2
-returns-2 c = let a = c .before .before .before .before .before .args in passes-none (a .self) (now (a .body)) (now (a .raw))
+returns-2 c = let a = c .before .before .before .before .before .args in passes-none (a .reader) (now (a .body)) (now (a .raw))
 
 returns-3 : tie.Need-returns-3
-returns-3 c = let a = c .before .before .before .before .before .args in passes-none (a .self) (now (a .body)) (now (a .raw))
+returns-3 c = let a = c .before .before .before .before .before .args in passes-none (a .reader) (now (a .body)) (now (a .raw))
 
 pub pass-spec : {M : Type 1} → statement M
 pass-spec =

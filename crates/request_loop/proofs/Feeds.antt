@@ -9,16 +9,16 @@ use lib.Seq.{take-suc, take-all, take-add}
 use types.Run.{OneOf, miss}
 use denote.Enum.Declared.{tagOf}
 use Rattle.serial_rules.specs.Reader as rules
 use Rattle.request_reader.proofs.Answer as answers
 use Rattle.request_reader.specs.declared.Reader.{Reader}
 use Rattle.request_reader.specs.declared.Answer.{Answer}
 use Rattle.request_reader.specs.declared.Answer.the-variants.{More, Character, Request, Refused}
 use Rattle.request_reader.specs.declared.Stepped.{Stepped}
-use Rattle.request_reader.specs.declared.Fed.{Fed}
+use Rattle.request_loop.specs.declared.Fed.{Fed}
 use Rattle.request_reader.specs.View.{answerOf, Step-done}
 use Rattle.request_reader.specs.Read.{Read, stop, took}
-use Rattle.request_reader.specs.Feed.{lastOf, told, Feed-done}
-use Rattle.request_reader.specs.Pass.{passedFrom, Pass-done}
+use Rattle.request_loop.specs.Feed.{lastOf, told, Feed-done}
+use Rattle.request_loop.specs.Pass.{passedFrom, Pass-done}
 
 -- one step at the end of a chain
 one-more : {r q : Reader} {lent xs left end : List ℕ} {gave : List rules.Answer} {x : ℕ} {o : Stepped} → Read r lent xs gave q left → Step-done q left x o end
