@@ -2,8 +2,8 @@
 use native.Mathlib.Omega.{arith}
 use borrow.Author.Tests.{le-ltb}
 use borrow.Author.Needs.{needs}
-use Rattle.kind.proofs.counted_turn.Statement.{statement}
-use Rattle.kind.proofs.counted_turn.Tie as tie
+use Rattle.shapes.proofs.counted_turn.Statement.{statement}
+use Rattle.shapes.proofs.counted_turn.Tie as tie
 
 returns : tie.Need-returns
 returns c = simp (c .if1 .taken, le-ltb (c .before .args .n) 0 (omega arith))

@@ -2,8 +2,8 @@
 use Rattle.serial_rules.specs.Reply.{shapeTurn}
 use borrow.Author.Tests.{le-ltb, lt-ltb, eq-eqb, ne-eqb}
 use borrow.Author.Needs.{needs}
-use Rattle.kind.proofs.text_turn.Statement.{statement}
-use Rattle.kind.proofs.text_turn.Tie as tie
+use Rattle.shapes.proofs.text_turn.Statement.{statement}
+use Rattle.shapes.proofs.text_turn.Tie as tie
 
 returns : tie.Need-returns
 unfolding shapeTurn

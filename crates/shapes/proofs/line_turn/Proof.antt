@@ -3,8 +3,8 @@ use mathlib.Core.Path.{_∙_}
 use Rattle.serial_rules.specs.Reply.{shapeTurn}
 use borrow.Author.Tests.{eq-eqb, ne-eqb}
 use borrow.Author.Needs.{needs}
-use Rattle.kind.proofs.line_turn.Statement.{statement}
-use Rattle.kind.proofs.line_turn.Tie as tie
+use Rattle.shapes.proofs.line_turn.Statement.{statement}
+use Rattle.shapes.proofs.line_turn.Tie as tie
 
 returns : tie.Need-returns
 unfolding shapeTurn

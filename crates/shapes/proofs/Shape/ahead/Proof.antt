@@ -3,9 +3,9 @@ use native.Mathlib.Omega.{arith}
 use borrow.Author.Needs.{needs}
 use mathlib.Core.Path.{_∙_}
 use Rattle.serial_rules.specs.Reply.{line}
-use Rattle.kind.proofs.Ahead.{ahead-fits}
-use Rattle.kind.proofs.Shape.ahead.Statement.{statement}
-use Rattle.kind.proofs.Shape.ahead.Tie as tie
+use Rattle.shapes.proofs.Ahead.{ahead-fits}
+use Rattle.shapes.proofs.Shape.ahead.Statement.{statement}
+use Rattle.shapes.proofs.Shape.ahead.Tie as tie
 
 returns : tie.Need-returns
 returns c = let e = c .before-last .ensures in rw (c .before .before .self .given .1) (e, λ h. omega (arith, e, c .before .known-told .given))

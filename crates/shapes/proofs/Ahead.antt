@@ -9,7 +9,7 @@ use Rattle.serial_rules.specs.Body.{more}
 use Rattle.serial_rules.specs.Reply.{Shape, fixed, line, text, shapeTurn, longest}
 use Rattle.turns.specs.Plain.{plain}
 use Rattle.turns.proofs.Plain.{no-return}
-use Rattle.kind.specs.Ahead.{aheadOf}
+use Rattle.shapes.specs.Ahead.{aheadOf}
 
 -- in the middle of a line its first byte has come
 line-begun : (n i : ℕ) → i < aheadOf line n → (n ≡ 0 → ⊥) × (n + i < 256)

@@ -2,8 +2,8 @@
 use mathlib.Core.Path.{_∙_}
 use Rattle.serial_rules.specs.Reply.{shapeTurn}
 use borrow.Author.Needs.{needs}
-use Rattle.kind.proofs.Shape.turn.Statement.{statement}
-use Rattle.kind.proofs.Shape.turn.Tie as tie
+use Rattle.shapes.proofs.Shape.turn.Statement.{statement}
+use Rattle.shapes.proofs.Shape.turn.Tie as tie
 
 returns : tie.Need-returns
 unfolding shapeTurn

@@ -2,8 +2,8 @@
 use borrow.Author.Needs.{needs}
 use borrow.Author.Tests.{eq-eqb, ne-eqb}
 use mathlib.Core.Path.{_∙_}
-use Rattle.kind.proofs.line_ahead.Statement.{statement}
-use Rattle.kind.proofs.line_ahead.Tie as tie
+use Rattle.shapes.proofs.line_ahead.Statement.{statement}
+use Rattle.shapes.proofs.line_ahead.Tie as tie
 
 returns : tie.Need-returns
 returns c = simp (eq-eqb _ _ (c .if1 .taken))
