@@ -207,7 +207,7 @@ impl Link {
         requires { ⌜ usableOf self ≡ true ⌝ }
         ensures { λ r. ⌜ Opening-done self m r ⌝ }
     {
-        let class = escape::inward_class(m);
+        let class = marks::inward_class(m);
         match class {
             1 => self.going(Answer::More, Doing::Open(Action::Error), 0),
             2 => self.going(Answer::EscapeState(m % 2 == 1), Doing::Quiet, 0),

@@ -281,7 +281,7 @@ fn starts_request(carrier: Carrier, m: u8) -> bool
     ensures { λ r. ⌜ r ≡ starts (carrierOf carrier) m ⌝ }
 {
     match carrier {
-        Carrier::Serial => escape::outward_class(m) == 1,
+        Carrier::Serial => marks::outward_class(m) == 1,
         Carrier::Parallel => {
             if m % 2 == 1 {
                 return false;

@@ -1,9 +1,9 @@
 -- The table computes to the rule's value at each of the 256 bytes.
 use borrow.Author.Needs.{needs}
 use Rattle.serial_rules.specs.Marks.{inwardClass}
-use Rattle.escape.proofs.Table.{value-at}
-use Rattle.escape.proofs.inward_class.Statement.{statement}
-use Rattle.escape.proofs.inward_class.Tie as tie
+use Rattle.marks.proofs.Table.{value-at}
+use Rattle.marks.proofs.inward_class.Statement.{statement}
+use Rattle.marks.proofs.inward_class.Tie as tie
 
 array-read-result : tie.Need-array-read-result
 array-read-result c = search needs
