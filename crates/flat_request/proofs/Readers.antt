@@ -24,9 +24,9 @@ use Rattle.request_reader.specs.Read as reads
 use Rattle.request_loop.specs.Feed.{told, Feed-done}
 use Rattle.request_loop.proofs.Feeds.{one-fed}
 use Rattle.flat.proofs.Flags.{flag-back, flag-same}
-use Rattle.flat_request.specs.declared.FlatReader.{FlatReader}
-use Rattle.flat_request.specs.declared.FlatRead.{FlatRead}
-use Rattle.flat_request.specs.Readers.{carrierAt, phaseAt, carrierNumber, phaseNumber, readerOf, tagsOk, flatView, flatAnswer, flatOf, flatRead, Flat-done}
+use Rattle.flat_reader.specs.declared.FlatReader.{FlatReader}
+use Rattle.flat_reader.specs.declared.FlatRead.{FlatRead}
+use Rattle.flat_reader.specs.Readers.{carrierAt, phaseAt, carrierNumber, phaseNumber, readerOf, tagsOk, flatView, flatAnswer, flatOf, flatRead, Flat-done}
 use Rattle.flat_request.specs.Feeds.{FlatReads, stop, took, flatTold, Flat-feed-done}
 
 -- from a reader and back

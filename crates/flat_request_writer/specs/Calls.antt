@@ -11,7 +11,7 @@ use Rattle.request_writer.specs.declared.Call.the-variants.{Osrdch, Oscli, Osby
 use Rattle.request_writer.specs.Calls.{callOf}
 use Rattle.request_reader.specs.View.{carrierOf}
 use Rattle.flat.specs.declared.FlatWritten.{FlatWritten}
-use Rattle.flat_request.specs.Readers.{carrierAt}
+use Rattle.flat_reader.specs.Readers.{carrierAt}
 
 -- the calls in the order of the request table, from 0
 abbrev pub callAt : ℕ → ℕ → ℕ → ℕ → ℕ → Call

@@ -2,7 +2,7 @@
 ghost use mathlib.Core.Path.{_≡_};
 ghost use Rattle.request_reader.specs.View.{carrierOf};
 ghost use Rattle.request_writer.specs.Promise.{Request-done};
-ghost use Rattle.flat_request.specs.Readers.{carrierAt};
+ghost use Rattle.flat_reader.specs.Readers.{carrierAt};
 ghost use Rattle.flat_request_writer.specs.Calls.{callAt, callKnown, Flat-request-done};
 use fields::Written;
 use flat::FlatWritten;

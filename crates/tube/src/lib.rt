@@ -3,7 +3,7 @@
 ghost use mathlib.Core.Path.{_≡_};
 ghost use Rattle.script.specs.Script.{Play-done};
 ghost use Rattle.script_text.specs.Text.{Text-done};
-ghost use Rattle.flat_request.specs.Readers.{freshReader, Flat-done};
+ghost use Rattle.flat_reader.specs.Readers.{freshReader, Flat-done};
 ghost use Rattle.flat_request.specs.Feeds.{Flat-feed-done};
 ghost use Rattle.flat_request_writer.specs.Calls.{callAt, Flat-request-done};
 ghost use Rattle.flat_link.specs.Kinds.{kindAt, Flat-kind-done};
@@ -18,9 +18,9 @@ use flat_link::FlatKind;
 use flat_link::FlatLink;
 use flat_link::FlatRan;
 use flat_link::FlatTold;
+use flat_reader::FlatRead;
+use flat_reader::FlatReader;
 use flat_request::FlatFed;
-use flat_request::FlatRead;
-use flat_request::FlatReader;
 use script::Played;
 
 // Plays a script: see `script::play`.

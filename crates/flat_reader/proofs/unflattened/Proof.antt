@@ -1,7 +1,7 @@
 -- Each number of the record has its field.
 use borrow.Author.Needs.{needs}
-use Rattle.flat_request.proofs.unflattened.Statement.{statement}
-use Rattle.flat_request.proofs.unflattened.Tie as tie
+use Rattle.flat_reader.proofs.unflattened.Statement.{statement}
+use Rattle.flat_reader.proofs.unflattened.Tie as tie
 
 carrier-at-requires : tie.Need-carrier-at-requires
 carrier-at-requires c κs = search needs

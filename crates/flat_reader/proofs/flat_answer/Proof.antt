@@ -1,7 +1,7 @@
 -- The reader is flattened, and its answer is put beside it.
 use borrow.Author.Needs.{needs}
-use Rattle.flat_request.proofs.flat_answer.Statement.{statement}
-use Rattle.flat_request.proofs.flat_answer.Tie as tie
+use Rattle.flat_reader.proofs.flat_answer.Statement.{statement}
+use Rattle.flat_reader.proofs.flat_answer.Tie as tie
 
 returns : tie.Need-returns
 returns c = rw (← c .before .flattened .ensures) (c .flat-read .ensures)

@@ -1,7 +1,7 @@
 -- Number 0 is the serial lead; every other number is the parallel side.
 use borrow.Author.Tests.{eq-eqb, ne-eqb}
-use Rattle.flat_request.proofs.carrier_at.Statement.{statement}
-use Rattle.flat_request.proofs.carrier_at.Tie as tie
+use Rattle.flat_reader.proofs.carrier_at.Statement.{statement}
+use Rattle.flat_reader.proofs.carrier_at.Tie as tie
 
 returns : tie.Need-returns
 returns c = rw (eq-eqb _ _ (c .if1 .taken))

@@ -1,7 +1,7 @@
 -- Each answer has its own kind.
 use borrow.Author.Needs.{needs}
-use Rattle.flat_request.proofs.flat_read.Statement.{statement}
-use Rattle.flat_request.proofs.flat_read.Tie as tie
+use Rattle.flat_reader.proofs.flat_read.Statement.{statement}
+use Rattle.flat_reader.proofs.flat_read.Tie as tie
 
 enum-told : tie.Need-enum-told
 enum-told c = search needs

@@ -15,8 +15,8 @@ use Rattle.request_reader.specs.declared.Answer.{Answer}
 use Rattle.request_reader.specs.declared.Answer.the-variants.{More, Character, Request, Refused}
 use Rattle.request_reader.specs.View.{carrierOf, viewOf, lentAfter}
 use Rattle.flat.specs.Flat.{flagNumber}
-use Rattle.flat_request.specs.declared.FlatReader.{FlatReader}
-use Rattle.flat_request.specs.declared.FlatRead.{FlatRead}
+use Rattle.flat_reader.specs.declared.FlatReader.{FlatReader}
+use Rattle.flat_reader.specs.declared.FlatRead.{FlatRead}
 
 -- carrier 0 is the serial lead, 1 the parallel side
 abbrev pub carrierAt : ℕ → Carrier

@@ -1,8 +1,8 @@
 -- Both numbers are in range exactly where both tests pass.
 use borrow.Author.Tests.{le-leb, lt-leb}
-use Rattle.flat_request.specs.Readers.{tagsOk}
-use Rattle.flat_request.proofs.has_tags.Statement.{statement}
-use Rattle.flat_request.proofs.has_tags.Tie as tie
+use Rattle.flat_reader.specs.Readers.{tagsOk}
+use Rattle.flat_reader.proofs.has_tags.Statement.{statement}
+use Rattle.flat_reader.proofs.has_tags.Tie as tie
 
 returns : tie.Need-returns
 unfolding tagsOk

@@ -1,7 +1,7 @@
 -- Each field of the record has its number.
 use borrow.Author.Needs.{needs}
-use Rattle.flat_request.proofs.flattened.Statement.{statement}
-use Rattle.flat_request.proofs.flattened.Tie as tie
+use Rattle.flat_reader.proofs.flattened.Statement.{statement}
+use Rattle.flat_reader.proofs.flattened.Tie as tie
 
 carrier-number-requires : tie.Need-carrier-number-requires
 carrier-number-requires c κs = search needs

@@ -1,7 +1,7 @@
 -- The two tests pick the phase of the number.
 use borrow.Author.Tests.{eq-eqb, ne-eqb}
-use Rattle.flat_request.proofs.phase_at.Statement.{statement}
-use Rattle.flat_request.proofs.phase_at.Tie as tie
+use Rattle.flat_reader.proofs.phase_at.Statement.{statement}
+use Rattle.flat_reader.proofs.phase_at.Tie as tie
 
 returns : tie.Need-returns
 returns c = rw (eq-eqb _ _ (c .if1 .taken))
