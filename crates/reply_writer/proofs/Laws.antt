@@ -1,4 +1,4 @@
--- Parts of a reply, and the writer's answers by their tests.
+-- The writer's answers by their tests.
 use Prim.Native.Nat.{ℕ, _≤_}
 use mathlib.Core.Path.{_≡_, refl, sym, _∙_}
 use mathlib.Core.Bool.{Bool, true, false, not}
@@ -12,17 +12,9 @@ use Rattle.serial_rules.specs.Reply as rules
 use Rattle.fields.specs.Promise.{Writer-done}
 use Rattle.fields.specs.declared.Written.{Written}
 use Rattle.fields.specs.declared.Written.the-variants.{TooLong, BadField}
-use Rattle.reply.specs.declared.Reply.{Reply}
-use Rattle.reply.specs.Promise.{replyFor}
-use Rattle.reply_writer.specs.declared.Parts.{Parts}
-use Rattle.reply_writer.specs.Parts.{Bytes-done, partsBytes, partsOk, Parts-done}
-
--- Parts are a reply's where they are those of the reply that is known, value by value.
-pub filled : {given known : Reply} {r p : Parts} → given ≡ known → r ≡ p → p .form ≡ rules.formIn (replyFor known) → p .line ≡ rules.hasLine (replyFor known)
-    → ((b t : List ℕ) → partsBytes p b t ≡ rules.replyBytes (replyFor known) b t) → p .before ≤ length (p .head) → p .behind ≤ length (p .tail)
-    → Parts-done (replyFor given) r
-filled is e form line bytes before behind =
-    rw (is, e) (record { form-is = form; line-is = line; bytes-are = bytes; before-fits = before; behind-fits = behind })
+use Rattle.reply_parts.specs.declared.Parts.{Parts}
+use Rattle.reply_parts.specs.Parts.{partsBytes, partsOk, Parts-done}
+use Rattle.reply_writer.specs.Promise.{Bytes-done}
 
 -- the first n of a list are n
 pub taken : (n : ℕ) (l : List ℕ) → n ≤ length l → n ≡ length (take n l)

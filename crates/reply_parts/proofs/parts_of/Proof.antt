@@ -4,9 +4,9 @@ use mathlib.Core.Path.{refl}
 use mathlib.Core.List.{append-nil}
 use borrow.Author.Needs.{needs}
 use Rattle.serial_rules.specs.Reply.{replyBytes}
-use Rattle.reply_writer.proofs.Laws.{filled}
-use Rattle.reply_writer.proofs.parts_of.Statement.{statement}
-use Rattle.reply_writer.proofs.parts_of.Tie as tie
+use Rattle.reply_parts.proofs.Laws.{filled}
+use Rattle.reply_parts.proofs.parts_of.Statement.{statement}
+use Rattle.reply_parts.proofs.parts_of.Tie as tie
 
 pub parts-of-spec : {M : Type 1} → statement M
 unfolding replyBytes

@@ -1,21 +1,14 @@
--- What the parts of the writer promise.
+-- What the parts of a reply say of it.
 use Prim.Native.Nat.{ℕ, _≤_}
 use mathlib.Core.Path.{_≡_}
 use mathlib.Core.Bool.{Bool, cond, not, _&&_, _||_}
 use mathlib.Core.List.{List, [], _++_}
-use lib.Dec.{eqb, ltb}
+use lib.Dec.{eqb}
 use lib.ListN.{length, take}
-use Rattle.serial_rules.specs.Escape.{escaped}
 use Rattle.serial_rules.specs.Call.{hasReturn}
 use Rattle.serial_rules.specs.Reply as rules
 use Rattle.serial_rules.specs.Reply.{Kind, formOf, formIn, blockIn, hasLine, replyBytes}
-use Rattle.fields.specs.Promise.{Writer-done}
-use Rattle.fields.specs.declared.Written.{Written}
-use Rattle.reply_writer.specs.declared.Parts.{Parts}
-
--- data bytes written: 8 exactly where they do not fit
-abbrev pub Bytes-done : List ℕ → List ℕ → Written → List ℕ → Type 0
-Bytes-done l out r left = Writer-done (cond (ltb (length out) (length (escaped l))) 8 0) (escaped l) out r left
+use Rattle.reply_parts.specs.declared.Parts.{Parts}
 
 abbrev pub partsWith : ℕ → Bool → Bool → List ℕ → ℕ → List ℕ → ℕ → Parts
 partsWith form block line head before tail behind =
