@@ -6,7 +6,7 @@ use mathlib.Core.List.{List}
 use borrow.Author.Tests.{lt-ltb, le-ltb}
 use lib.ListN.{length}
 use Rattle.serial_rules.specs.Call.{stringLimit}
-use Rattle.request_writer.specs.declared.Call.{Call}
+use Rattle.calls.specs.declared.Call.{Call}
 use Rattle.fields.specs.declared.Written.{Written}
 use Rattle.fields.specs.declared.Written.the-variants.{TooLong, BadField}
 use Rattle.request_writer.specs.Promise.{Request-done}

@@ -6,9 +6,9 @@ use mathlib.Core.List.{List, _++_}
 use lib.Dec.{eqb, leb, ltb}
 use lib.ListN.{length, drop}
 use Rattle.serial_rules.specs.Call.{stringLimit, encodingOf, writerNumber}
-use Rattle.request_writer.specs.declared.Call.{Call}
-use Rattle.request_writer.specs.declared.Call.the-variants.{Osrdch, Oscli, OsbyteLow, OsbyteHigh, Osword, Osword0, Osargs, Osbget, Osbput, OsfindClose, OsfindOpen, Osfile, Osgbpb}
-use Rattle.request_writer.specs.Calls.{callOf}
+use Rattle.calls.specs.declared.Call.{Call}
+use Rattle.calls.specs.declared.Call.the-variants.{Osrdch, Oscli, OsbyteLow, OsbyteHigh, Osword, Osword0, Osargs, Osbget, Osbput, OsfindClose, OsfindOpen, Osfile, Osgbpb}
+use Rattle.calls.specs.Calls.{callOf}
 use Rattle.request_reader.specs.View.{carrierOf}
 use Rattle.flat.specs.declared.FlatWritten.{FlatWritten}
 use Rattle.flat_reader.specs.Readers.{carrierAt}

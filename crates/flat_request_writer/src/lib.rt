@@ -4,13 +4,13 @@ ghost use Rattle.request_reader.specs.View.{carrierOf};
 ghost use Rattle.request_writer.specs.Promise.{Request-done};
 ghost use Rattle.flat_reader.specs.Readers.{carrierAt};
 ghost use Rattle.flat_request_writer.specs.Calls.{callAt, callKnown, Flat-request-done};
+use calls::Call;
 use fields::Written;
 use flat::FlatWritten;
-use request_writer::Call;
 use strings::Text;
 
 // Writes a request: see `request_writer::write_serial` (carrier 0) and `write_parallel` (1). The calls are numbered in the order of
-// `request_writer::Call`, from 0; another carrier or call is a field that breaks its rule. A number that the call does not have is not read.
+// `calls::Call`, from 0; another carrier or call is a field that breaks its rule. A number that the call does not have is not read.
 pub fn write_request(
     carrier: u8,
     style: u8,

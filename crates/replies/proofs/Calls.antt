@@ -16,8 +16,8 @@ use Rattle.fields.specs.Promise.{number}
 use Rattle.fields.proofs.Wrote.{wrote}
 use Rattle.kind.specs.Kinds.{kindFor}
 use Rattle.kind.specs.declared.CallKind.{CallKind}
-use Rattle.request_writer.specs.declared.Call.{Call}
-use Rattle.request_writer.specs.Calls.{callOf}
+use Rattle.calls.specs.declared.Call.{Call}
+use Rattle.calls.specs.Calls.{callOf}
 use Rattle.request_writer.specs.Promise.{Request-done}
 use Rattle.request_reader.specs.declared.Carrier.the-variants.{Serial}
 use Rattle.request_reader.specs.declared.Reader.{Reader}

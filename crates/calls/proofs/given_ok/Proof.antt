@@ -2,9 +2,9 @@
 use borrow.Author.Needs.{needs}
 use borrow.Author.Tests.{not-true, not-false}
 use mathlib.Core.Path.{sym, _∙_}
-use Rattle.request_writer.proofs.Rows.{style-broken, number-broken, block-broken, string-given, string-missing}
-use Rattle.request_writer.proofs.given_ok.Statement.{statement}
-use Rattle.request_writer.proofs.given_ok.Tie as tie
+use Rattle.calls.proofs.Rows.{style-broken, number-broken, block-broken, string-given, string-missing}
+use Rattle.calls.proofs.given_ok.Statement.{statement}
+use Rattle.calls.proofs.given_ok.Tie as tie
 
 returns : tie.Need-returns
 returns c = style-broken _ _ _ (sym (c .before .style-ok .ensures) ∙ not-true _ (c .if1 .taken))

@@ -7,7 +7,7 @@ use lib.Dec.{eqb, leb}
 use lib.ListN.{length, take}
 use Rattle.serial_rules.specs.Call.{Call, osrdch, oscli, osbyteLow, osbyteHigh, osword, osword0, osargs, osbget, osbput, osfindClose, osfindOpen, osfile, osgbpb, return, codeOf, numbersOk, hasString, hasReturn, styleOk}
 use Rattle.room.specs.Carriers.{carrierOf}
-use Rattle.request_writer.specs.declared.Row.{Row}
+use Rattle.calls.specs.declared.Row.{Row}
 
 -- a length as a byte
 abbrev pub lengthByte : ℕ → ℕ

@@ -1,6 +1,6 @@
 -- The flag tells the carrier, and the carrier the rule.
-use Rattle.request_writer.proofs.style_ok.Statement.{statement}
-use Rattle.request_writer.proofs.style_ok.Tie as tie
+use Rattle.calls.proofs.style_ok.Statement.{statement}
+use Rattle.calls.proofs.style_ok.Tie as tie
 
 pub style-ok-spec : {M : Type 1} → statement M
 style-ok-spec =

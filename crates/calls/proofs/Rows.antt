@@ -14,10 +14,10 @@ use Rattle.serial_rules.proofs.Replies.{no-text}
 use Rattle.room.specs.Carriers.{carrierOf, coded}
 use Rattle.fields.specs.Promise.{Length-done}
 use Rattle.fields.proofs.Wrote.{no-string}
-use Rattle.request_writer.specs.declared.Call as code
-use Rattle.request_writer.specs.declared.Row.{Row}
-use Rattle.request_writer.specs.Calls.{callOf}
-use Rattle.request_writer.specs.Rows.{lengthByte, headStart, headIn, tailIn, givenOk, blockLength, headOf, tailOf, Row-done}
+use Rattle.calls.specs.declared.Call as code
+use Rattle.calls.specs.declared.Row.{Row}
+use Rattle.calls.specs.Calls.{callOf}
+use Rattle.calls.specs.Rows.{lengthByte, headStart, headIn, tailIn, givenOk, blockLength, headOf, tailOf, Row-done}
 
 -- The length that a row asks of the block is the one that the call's rule asks; OSWORD takes every length that is a byte.
 any-byte : (n : ℕ) (t : Bool) → leb n 255 ≡ t → eqb n (cond t n 0) ≡ t

@@ -1,7 +1,7 @@
 -- The calls of the program, as the rules speak of them.
 use Rattle.serial_rules.specs.Call as rules
-use Rattle.request_writer.specs.declared.Call.{Call}
-use Rattle.request_writer.specs.declared.Call.the-variants.{Osrdch, Oscli, OsbyteLow, OsbyteHigh, Osword, Osword0, Osargs, Osbget, Osbput, OsfindClose, OsfindOpen, Osfile, Osgbpb}
+use Rattle.calls.specs.declared.Call.{Call}
+use Rattle.calls.specs.declared.Call.the-variants.{Osrdch, Oscli, OsbyteLow, OsbyteHigh, Osword, Osword0, Osargs, Osbget, Osbput, OsfindClose, OsfindOpen, Osfile, Osgbpb}
 
 abbrev pub callOf : Call → rules.Call
 callOf Osrdch = rules.osrdch

@@ -3,9 +3,9 @@ use native.Mathlib.Omega.{arith}
 use mathlib.Core.Path.{refl}
 use borrow.Author.Needs.{needs}
 use Rattle.serial_rules.specs.Call.{codeOf}
-use Rattle.request_writer.proofs.Rows.{filled}
-use Rattle.request_writer.proofs.row_of.Statement.{statement}
-use Rattle.request_writer.proofs.row_of.Tie as tie
+use Rattle.calls.proofs.Rows.{filled}
+use Rattle.calls.proofs.row_of.Statement.{statement}
+use Rattle.calls.proofs.row_of.Tie as tie
 
 pub row-of-spec : {M : Type 1} → statement M
 unfolding codeOf

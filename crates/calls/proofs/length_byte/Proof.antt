@@ -1,8 +1,8 @@
 -- A length up to 255 is a byte.
 use borrow.Author.Needs.{needs}
 use borrow.Author.Tests.{le-leb, lt-leb}
-use Rattle.request_writer.proofs.length_byte.Statement.{statement}
-use Rattle.request_writer.proofs.length_byte.Tie as tie
+use Rattle.calls.proofs.length_byte.Statement.{statement}
+use Rattle.calls.proofs.length_byte.Tie as tie
 
 pub length-byte-spec : {M : Type 1} → statement M
 length-byte-spec =
