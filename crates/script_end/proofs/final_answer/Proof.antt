@@ -1,7 +1,7 @@
 -- The two tests in the order of document 01's answers.
 use borrow.Author.Tests.{eq-eqb, ne-eqb}
-use Rattle.script.proofs.final_answer.Statement.{statement}
-use Rattle.script.proofs.final_answer.Tie as tie
+use Rattle.script_end.proofs.final_answer.Statement.{statement}
+use Rattle.script_end.proofs.final_answer.Tie as tie
 
 returns : tie.Need-returns
 returns c = rw (eq-eqb _ _ (c .if1 .taken))
