@@ -23,8 +23,8 @@ use Rattle.request_reader.specs.declared.Reader.{Reader}
 use Rattle.request_reader.specs.declared.Answer.the-variants.{More}
 use Rattle.request_reader.specs.declared.Stepped.{Stepped}
 use Rattle.request_reader.specs.View.{carrierOf, within, viewOf, answerOf, Step-done}
-use Rattle.bodies.specs.Ahead.{aheadIn}
-use Rattle.bodies.proofs.Middle.{Ahead-done, ahead-holds}
+use Rattle.middles.specs.Ahead.{aheadIn}
+use Rattle.middles.proofs.Middle.{Ahead-done, ahead-holds}
 use Rattle.request_reader.specs.Read.{Read, stop, took}
 use Rattle.request_loop.specs.Pass.{passedFrom, Pass-done}
 use Rattle.request_reader.proofs.Limits.{longest-fits}

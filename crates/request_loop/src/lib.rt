@@ -68,7 +68,7 @@ fn pass_body(reader: Reader, raw: &[u8], body: &mut [u8]) -> usize
     ensures { λ r. ⌜ Pass-done reader (now (body .entry)) (now (raw .entry)) r (now (body .exit)) ⌝ }
 {
     let count = reader.count;
-    let most = bodies::ahead(reader.code, &body[..count]);
+    let most = middles::ahead(reader.code, &body[..count]);
     let end = count + most;
     turns::copy_plain(raw, &mut body[count..end])
 }

@@ -1,9 +1,9 @@
 -- Each arm is the rule at that arm's code; a code of no arm fails all the rule's tests.
-use Rattle.bodies.specs.Ahead.{aheadIn}
+use Rattle.middles.specs.Ahead.{aheadIn}
 use borrow.Author.Tests.{ne-eqb}
 use borrow.Author.Needs.{needs}
-use Rattle.bodies.proofs.ahead.Statement.{statement}
-use Rattle.bodies.proofs.ahead.Tie as tie
+use Rattle.middles.proofs.ahead.Statement.{statement}
+use Rattle.middles.proofs.ahead.Tie as tie
 
 returns : tie.Need-returns
 unfolding aheadIn

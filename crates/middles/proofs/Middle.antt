@@ -12,8 +12,8 @@ use Rattle.serial_rules.specs.Call.{return}
 use Rattle.serial_rules.specs.Body.{more, stringTurn, fixedTurn, nameTurn, ended, bodyTurn, longestBody}
 use Rattle.turns.specs.Plain.{plain, Plains, none, one}
 use Rattle.turns.proofs.Plain.{no-return}
-use Rattle.bodies.specs.Ahead.{wordAhead, findAhead, fileAhead, aheadIn}
+use Rattle.middles.specs.Ahead.{wordAhead, findAhead, fileAhead, aheadIn}
 use Rattle.bodies.proofs.Bytes.{word-rest, find-rest, ended-last}
 
 -- Behind the bytes s of a body of this code n more plain bytes need more, and leave the count below the code's longest body.
 pub record Ahead-done (code : ℕ) (s : List ℕ) (n : ℕ) : Type 0 where

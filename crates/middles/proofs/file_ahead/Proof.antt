@@ -2,11 +2,11 @@
 use denote.Ref.{now}
 use mathlib.Core.Path.{sym, ap, _∙_}
 use Rattle.serial_rules.specs.Body.{ended}
 use Rattle.bodies.proofs.Bytes.{tail}
 use borrow.Author.Needs.{needs}
 use borrow.Author.Tests.{lt-ltb, le-ltb}
-use Rattle.bodies.proofs.file_ahead.Statement.{statement}
-use Rattle.bodies.proofs.file_ahead.Tie as tie
+use Rattle.middles.proofs.file_ahead.Statement.{statement}
+use Rattle.middles.proofs.file_ahead.Tie as tie
 
 returns : tie.Need-returns
 returns c = simp (lt-ltb _ _ (c .if1 .taken))

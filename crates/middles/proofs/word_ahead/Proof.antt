@@ -3,8 +3,8 @@ use native.Mathlib.Omega.{arith}
 use mathlib.Core.Path.{_∙_}
 use borrow.Author.Needs.{needs}
 use borrow.Author.Tests.{lt-ltb, le-ltb}
-use Rattle.bodies.proofs.word_ahead.Statement.{statement}
-use Rattle.bodies.proofs.word_ahead.Tie as tie
+use Rattle.middles.proofs.word_ahead.Statement.{statement}
+use Rattle.middles.proofs.word_ahead.Tie as tie
 
 returns : tie.Need-returns
 returns c = simp (lt-ltb _ _ (c .if1 .taken))

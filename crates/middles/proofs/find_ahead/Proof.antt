@@ -2,8 +2,8 @@
 use mathlib.Core.Path.{_∙_}
 use borrow.Author.Needs.{needs}
 use borrow.Author.Tests.{eq-eqb, ne-eqb}
-use Rattle.bodies.proofs.find_ahead.Statement.{statement}
-use Rattle.bodies.proofs.find_ahead.Tie as tie
+use Rattle.middles.proofs.find_ahead.Statement.{statement}
+use Rattle.middles.proofs.find_ahead.Tie as tie
 
 returns : tie.Need-returns
 returns c = simp (eq-eqb _ _ (c .if1 .taken))
