@@ -5,8 +5,8 @@ use native.Mathlib.Numerals.{add-one}
 use mathlib.Core.Path.{_≡_, refl, ap, _∙_}
 use mathlib.Core.List.{List, [], _∷_, _++_, append-assoc, append-nil}
 use lib.ListN.{length, getD, length-append}
-use Rattle.script_text.specs.Text.{decimal, lineOf, linesOf, endOf, textOf}
-use Rattle.script_text.specs.Write.{endWord, fieldOf}
+use Rattle.script_lines.specs.Text.{decimal, lineOf, linesOf, endOf, textOf}
+use Rattle.script_lines.specs.Fields.{endWord, fieldOf}
 
 pub line-fields : (a b l : ℕ) → lineOf a b l ≡ (fieldOf a 32 ++ fieldOf b 32) ++ fieldOf l 10
 unfolding lineOf fieldOf

@@ -9,7 +9,7 @@ use mathlib.Core.Path.{_≡_, refl}
 use mathlib.Core.List.{List, [], _∷_, _++_, List·Memᴰ, List·Memᴰ·append-cases, List·Memᴰ·eq-of-singleton, List·Memᴰ·not-nil}
 use lib.Dec.{ltb}
 use lib.ListN.{length, getD, length-append}
-use Rattle.script_text.specs.Text.{digitsOf, decimal}
+use Rattle.script_lines.specs.Text.{digitsOf, decimal}
 
 -- one digit, or one behind the others
 pub digits-few : (k n : ℕ) → 0 < k → n < 10 → digitsOf k n ≡ (48 + n % 10) ∷ []

@@ -1,9 +1,9 @@
 -- Two numbers, two bytes that end them, and the four of the word.
 use borrow.Author.Needs.{needs}
 use native.Mathlib.Omega.{arith}
-use Rattle.script_text.proofs.Lines.{end-length}
-use Rattle.script_text.proofs.end_length.Statement.{statement}
-use Rattle.script_text.proofs.end_length.Tie as tie
+use Rattle.script_lines.proofs.Lines.{end-length}
+use Rattle.script_lines.proofs.end_length.Statement.{statement}
+use Rattle.script_lines.proofs.end_length.Tie as tie
 
 digit-count-requires : tie.Need-digit-count-requires
 digit-count-requires c κs = search needs

@@ -6,10 +6,10 @@ use native.Mathlib.Omega.{arith}
 use mathlib.Core.Path.{_≡_, sym}
 use lib.ListN.{length}
 use Prim.Native.Nat.{_≤_, _+_, _-_}
-use Rattle.script_text.specs.Text.{linesOf}
-use Rattle.script_text.proofs.Lines.{nth, lines-length, lines-room}
-use Rattle.script_text.proofs.lines_fit.Statement.{statement}
-use Rattle.script_text.proofs.lines_fit.Tie as tie
+use Rattle.script_lines.specs.Text.{linesOf}
+use Rattle.script_lines.proofs.Lines.{nth, lines-length, lines-room}
+use Rattle.script_lines.proofs.lines_fit.Statement.{statement}
+use Rattle.script_lines.proofs.lines_fit.Tie as tie
 
 abbrev Inv-loop : tie.InvT-loop
 Inv-loop results n more room left₀ i₀ left i = (i ≤ n) × (left + length (linesOf i results) + more ≡ room)

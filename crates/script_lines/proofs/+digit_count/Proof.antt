@@ -6,13 +6,13 @@ use native.Mathlib.Omega.{arith}
 use lib.ListN.{length, length-append}
 use mathlib.Core.Path.{_≡_, ap}
 use Prim.Native.Nat.{ℕ, _<_}
-use Rattle.script_text.specs.Text.{digitsOf}
-use Rattle.script_text.proofs.Decimal.{digits-few, digits-more}
-use Rattle.script_text.proofs.digit_count.Reads as digit-count
-use Rattle.script_text.proofs.digit_count.Kinds as digit-count-kinds
-use Rattle.script_text.proofs.+digit_count.Lts-digit_count as lts
-use Rattle.script_text.proofs.+digit_count.{statement}
-use Rattle.script_text.proofs.+digit_count.Tie.{close}
+use Rattle.script_lines.specs.Text.{digitsOf}
+use Rattle.script_lines.proofs.Decimal.{digits-few, digits-more}
+use Rattle.script_lines.proofs.digit_count.Reads as digit-count
+use Rattle.script_lines.proofs.digit_count.Kinds as digit-count-kinds
+use Rattle.script_lines.proofs.+digit_count.Lts-digit_count as lts
+use Rattle.script_lines.proofs.+digit_count.{statement}
+use Rattle.script_lines.proofs.+digit_count.Tie.{close}
 
 abbrev μ : Measures 0 digit-count-kinds.ps ℕ
 μ κs a = a .0

@@ -1,9 +1,9 @@
 -- Three numbers, and three bytes that end them.
 use borrow.Author.Needs.{needs}
 use native.Mathlib.Omega.{arith}
-use Rattle.script_text.proofs.Lines.{line-length}
-use Rattle.script_text.proofs.line_length.Statement.{statement}
-use Rattle.script_text.proofs.line_length.Tie as tie
+use Rattle.script_lines.proofs.Lines.{line-length}
+use Rattle.script_lines.proofs.line_length.Statement.{statement}
+use Rattle.script_lines.proofs.line_length.Tie as tie
 
 digit-count-requires : tie.Need-digit-count-requires
 digit-count-requires c κs = search needs
