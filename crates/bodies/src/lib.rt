@@ -1,11 +1,9 @@
-// One data byte b of a request's body, against the bytes s, or n bytes, before it; and the bytes in the middle of a field.
+// One data byte b of a request's body, against the bytes s, or n bytes, before it.
 use strings::Text;
 use turns::Turn;
-ghost use Prim.Native.Nat.{_-_};
 ghost use mathlib.Core.Path.{_≡_};
 ghost use Rattle.serial_rules.specs.Body.{checkedTurn, wordTurn, findTurn, nameTurn, ended, fileTurn, bodyTurn, longestBody};
 ghost use Rattle.turns.specs.Turns.{turnOf};
-ghost use Rattle.bodies.specs.Ahead.{wordAhead, findAhead, fileAhead, aheadIn};
 
 // A byte of a body whose last byte has the index `last` and has to pass a test.
 fn checked_turn(n: usize, last: usize, ok: bool) -> Turn
@@ -69,7 +67,7 @@ fn name_turn(n: usize, b: u8) -> Turn
 }
 
 // Whether the last byte ends a string.
-fn name_ended(s: &[u8]) -> bool
+pub fn name_ended(s: &[u8]) -> bool
     ensures { λ r. ⌜ r ≡ ended (now (s .entry)) ⌝ }
 {
     let n = s.len();
@@ -112,73 +110,6 @@ pub fn body_turn(code: u8, s: &[u8], b: u8) -> Turn
         0x16 => turns::fixed_turn(n, 13),
         _ => Turn::Refused(4),
     }
-}
-
-// How many bytes behind s stand in the middle of their field: they need more, whatever they are but an escape or a return.
-pub fn ahead(code: u8, s: &[u8]) -> usize
-    ensures { λ r. ⌜ r ≡ aheadIn code (now (s .entry)) ⌝ }
-{
-    let n = s.len();
-    match code {
-        0x02 => up_to(n, Text::LIMIT),
-        0x08 => word_ahead(s),
-        0x0A => up_to(n, 4),
-        0x0C => up_to(n, 5),
-        0x12 => find_ahead(s),
-        0x14 => file_ahead(s),
-        0x16 => up_to(n, 13),
-        _ => 0,
-    }
-}
-
-// How many bytes stand behind the first n, up to the index `last`.
-fn up_to(n: usize, last: usize) -> usize
-    ensures { λ r. ⌜ r ≡ last - n ⌝ }
-{
-    if n < last {
-        return last - n;
-    }
-    0
-}
-
-// In OSWORD's block.
-fn word_ahead(s: &[u8]) -> usize
-    ensures { λ r. ⌜ r ≡ wordAhead (now (s .entry)) ⌝ }
-{
-    let n = s.len();
-    if n < 2 {
-        return 0;
-    }
-    let last = s[1] as usize;
-    up_to(n - 2, last)
-}
-
-// In the string of an OSFIND that opens.
-fn find_ahead(s: &[u8]) -> usize
-    ensures { λ r. ⌜ r ≡ findAhead (now (s .entry)) ⌝ }
-{
-    let n = s.len();
-    if n == 0 {
-        return 0;
-    }
-    if s[0] == 0 {
-        return 0;
-    }
-    up_to(n, Text::LIMIT + 1)
-}
-
-// In OSFILE's block, and in its name.
-fn file_ahead(s: &[u8]) -> usize
-    ensures { λ r. ⌜ r ≡ fileAhead (now (s .entry)) ⌝ }
-{
-    let n = s.len();
-    if n < 16 {
-        return 16 - n;
-    }
-    if name_ended(&s[16..]) {
-        return 0;
-    }
-    up_to(n, Text::LIMIT + 16)
 }
 
 // The length of the longest body of a code; 0 for a code without a body. OSFILE's is the longest of all: 16 bytes, a string of 255, its

@@ -1,13 +1,10 @@
 // The escape layer of the serial protocol.
-mod marks;
-
 ghost use Prim.Native.Nat.{_≤_};
 ghost use mathlib.Core.Path.{_≡_};
 ghost use mathlib.Core.List.{[], _∷_};
 ghost use lib.Dec.{leb};
 ghost use lib.ListN.{length};
 ghost use Rattle.serial_rules.specs.Escape.{pieceOf, escaped, escapes};
-ghost use Rattle.serial_rules.specs.Marks.{outwardClass, inwardClass};
 ghost use Rattle.escape.specs.Layer.{pieceFor, isEscape, Data-done};
 ghost use Rattle.escape.specs.Put.{Put};
 
@@ -112,18 +109,4 @@ fn put_byte(byte: u8, out: &mut [u8]) -> usize
     out[0] = byte;
     out[more] = byte;
     1 + more
-}
-
-// The class of a mark outward: 1 starts a request, 0 is not carried.
-pub fn outward_class(mark: u8) -> u8
-    ensures { λ r. ⌜ r ≡ outwardClass mark ⌝ }
-{
-    marks::OUTWARD[mark as usize]
-}
-
-// The class of a mark inward: 1 an error, 2 the Escape state, 3 an event, 4 an address, 0 not carried.
-pub fn inward_class(mark: u8) -> u8
-    ensures { λ r. ⌜ r ≡ inwardClass mark ⌝ }
-{
-    marks::INWARD[mark as usize]
 }

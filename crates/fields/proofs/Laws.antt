@@ -1,5 +1,5 @@
 -- Laws of the field writers: data bytes on either carrier, one field after another, what the two loops pass, and what the writers promise.
-use Prim.Native.Nat.{ℕ, suc, _+_, _-_, _*_, _≤_, _<_}
+use Prim.Native.Nat.{ℕ, suc, _+_, _-_, _≤_, _<_}
 use native.Mathlib.Nat.{zero-add}
 use native.Mathlib.Numerals.{add-one}
 use native.Mathlib.Omega.{arith}
@@ -12,12 +12,12 @@ use lib.Dec.{eqb, leb, ltb}
 use lib.ListN.{length, take, drop, getD, set, length-append}
 use lib.Seq.{drop-cons, take-suc, set-at}
 use Rattle.serial_rules.specs.Escape.{escape, escaped, escapes}
-use Rattle.serial_rules.proofs.Escape.{escaped-length, escaped-most}
 use Rattle.serial_rules.proofs.Stream.{carried-append}
 use Rattle.escape.specs.Put.{over, Put}
 use Rattle.escape.proofs.Laws.{put-as, put-tail, tail-room, escapes-more, escapes-none}
 use Rattle.fields.specs.declared.Written.the-variants.{Done, NoRoom}
-use Rattle.fields.specs.Carriers.{carrierOf, coded, addedOn, partsRaw, fieldsRaw}
+use Rattle.room.specs.Carriers.{carrierOf, coded, partsRaw, fieldsRaw}
+use Rattle.room.proofs.Coded.{plain-parallel, coded-length, coded-most, pair-length}
 use Rattle.fields.specs.Promise.{Encoded, Fields-done, Length-done}
 
 -- Data bytes without an escape byte stand as they are.
@@ -31,11 +31,7 @@ unfolding escaped escapes
 escaped-plain [] h = refl
 escaped-plain (x ∷ l) h = plain-more x l (eqb x escape) (escaped-plain l) h
 
--- Data bytes on a carrier: as they are on the parallel side and where there is no escape byte, else escaped; and how many they are.
-pub plain-parallel : (l : List ℕ) → coded false l ≡ l
-unfolding coded
-plain-parallel l = refl
-
+-- Data bytes on a carrier: as they are on the parallel side and where there is no escape byte, else escaped.
 pub coded-parallel : (flag : Bool) (l : List ℕ) → not flag ≡ true → coded flag l ≡ l
 unfolding coded
 coded-parallel true l h = absurd (true≢false (sym h))
@@ -48,20 +44,6 @@ coded-serial false l h = absurd (true≢false h)
 
 pub coded-plain : (flag : Bool) (l : List ℕ) {found : Bool} → not flag ≡ false → found ≡ ltb 0 (escapes l) → found ≡ false → coded flag l ≡ l
 coded-plain flag l h e is = coded-serial flag l h ∙ escaped-plain l (omega (arith, ltb-false 0 (escapes l) (sym e ∙ is)))
-
-pub coded-length : (flag : Bool) (l : List ℕ) → length (coded flag l) ≡ length l + addedOn flag l
-unfolding coded addedOn
-coded-length true l = escaped-length l
-coded-length false l = omega arith
-
-pub coded-most : (flag : Bool) (l : List ℕ) → length (coded flag l) ≤ 2 * length l
-unfolding coded
-coded-most true l = escaped-most l
-coded-most false l = omega arith
-
-pub pair-length : (flag : Bool) (x y : List ℕ) → length (coded flag (x ++ y)) ≡ length (coded flag x) + length (coded flag y)
-unfolding coded
-pair-length flag x y = rw (carried-append (carrierOf flag) x y, length-append)
 
 -- Two fields, the second into the tail after the first: the room of each, and the whole.
 pub first-room : (flag : Bool) (x y : List ℕ) {n : ℕ} → length (coded flag (x ++ y)) ≤ n → length (coded flag x) ≤ n

@@ -1,3 +1,1 @@
-pub mod Carriers
 pub mod Promise
-pub mod Room

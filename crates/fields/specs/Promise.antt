@@ -7,7 +7,7 @@ use lib.Dec.{eqb, ltb}
 use lib.ListN.{length, drop}
 use Rattle.fields.specs.declared.Written.{Written}
 use Rattle.fields.specs.declared.Written.the-variants.{Done, TooLong, BadField, NoRoom}
-use Rattle.fields.specs.Carriers.{fieldsRaw}
+use Rattle.room.specs.Carriers.{fieldsRaw}
 
 -- Document 01's number of each answer, and the bytes written.
 abbrev pub number : Written → ℕ

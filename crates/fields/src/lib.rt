@@ -3,13 +3,12 @@ ghost use Prim.Native.Nat.{_≤_};
 ghost use mathlib.Core.Path.{_≡_};
 ghost use mathlib.Core.List.{_++_};
 ghost use mathlib.Core.Bool.{_||_};
-ghost use lib.Dec.{eqb, leb, ltb};
+ghost use lib.Dec.{eqb, ltb};
 ghost use lib.ListN.{length};
 ghost use Rattle.serial_rules.specs.Escape.{escape, escaped, escapes};
 ghost use Rattle.escape.specs.Put.{Put};
-ghost use Rattle.fields.specs.Carriers.{coded, addedOn, partsRaw};
+ghost use Rattle.room.specs.Carriers.{coded, partsRaw};
 ghost use Rattle.fields.specs.Promise.{Fields-done, Length-done};
-ghost use Rattle.fields.specs.Room.{leftOf};
 
 // The answers of a writer: the length of the encoding written; a string over 255 bytes; a field that breaks its rule; too little room.
 pub enum Written {
@@ -17,12 +16,6 @@ pub enum Written {
     TooLong,
     BadField,
     NoRoom,
-}
-
-// What is left of the room, or that there was too little.
-enum Left {
-    Room(usize),
-    Short,
 }
 
 // Writes a heading as it is, then three fields of data bytes, one behind the other, into the start of `out`: on the serial lead each
@@ -41,7 +34,7 @@ pub fn write_fields(
     if 0 < n {
         return Written::Done(n);
     }
-    let empty = fields_fit(false, heading, first, second, third, 0);
+    let empty = room::fields_fit(false, heading, first, second, third, 0);
     if empty {
         return Written::Done(0);
     }
@@ -61,78 +54,8 @@ pub fn write_length(
 ) -> usize
     ensures { λ r. ⌜ Length-done (partsRaw serial (now (heading .entry)) (now (first .entry)) (now (second .entry)) (now (third .entry)) (now (fourth .entry))) (now (out .entry)) r (now (out .exit)) ⌝ }
 {
-    if parts_fit(serial, heading, first, second, third, fourth, out.len()) {
+    if room::parts_fit(serial, heading, first, second, third, fourth, out.len()) {
         return put_parts(serial, heading, first, second, third, fourth, out);
-    }
-    0
-}
-
-// Whether the whole fits into `room` bytes. The escape bytes are counted only where all fields doubled would not fit.
-fn parts_fit(
-    serial: bool,
-    heading: &[u8],
-    first: &[u8],
-    second: &[u8],
-    third: &[u8],
-    fourth: &[u8],
-    room: usize,
-) -> bool
-    ensures { λ r. ⌜ r ≡ leb (length (partsRaw serial (now (heading .entry)) (now (first .entry)) (now (second .entry)) (now (third .entry)) (now (fourth .entry)))) room ⌝ }
-{
-    if room < heading.len() {
-        return false;
-    }
-    let spare = room - heading.len();
-    if fields_fit(false, first, second, third, fourth, spare / 2) {
-        return true;
-    }
-    fields_fit(serial, first, second, third, fourth, spare)
-}
-
-// Whether four fields fit into `room` bytes. What is left of the room is counted down, so that no sum overflows.
-fn fields_fit(
-    serial: bool,
-    first: &[u8],
-    second: &[u8],
-    third: &[u8],
-    fourth: &[u8],
-    room: usize,
-) -> bool
-    ensures { λ r. ⌜ r ≡ leb (length (coded serial (now (first .entry) ++ (now (second .entry) ++ (now (third .entry) ++ now (fourth .entry)))))) room ⌝ }
-{
-    let for_three = left_after(serial, first, Left::Room(room));
-    let for_two = left_after(serial, second, for_three);
-    let for_fourth = left_after(serial, third, for_two);
-    match left_after(serial, fourth, for_fourth) {
-        Left::Room(_) => true,
-        Left::Short => false,
-    }
-}
-
-// What data bytes leave of the room.
-fn left_after(serial: bool, bytes: &[u8], left: Left) -> Left
-    ensures { λ r. ⌜ r ≡ leftOf (length (coded serial (now (bytes .entry)))) left ⌝ }
-{
-    let Left::Room(room) = left else {
-        return Left::Short;
-    };
-    if room < bytes.len() {
-        return Left::Short;
-    }
-    let spare = room - bytes.len();
-    let n = added(serial, bytes);
-    if spare < n {
-        return Left::Short;
-    }
-    Left::Room(spare - n)
-}
-
-// How many bytes the carrier adds to data bytes: on the serial lead one for each escape byte.
-fn added(serial: bool, bytes: &[u8]) -> usize
-    ensures { λ r. ⌜ r ≡ addedOn serial (now (bytes .entry)) ⌝ }
-{
-    if serial {
-        return escape::count_escapes(bytes);
     }
     0
 }

@@ -13,7 +13,8 @@ use Rattle.fields.specs.declared.Written.the-variants.{TooLong, BadField}
 use Rattle.kind.specs.declared.CallKind.{CallKind}
 use Rattle.reply.specs.declared.Reply.{Reply}
 use Rattle.reply.specs.declared.Given.{Given}
-use Rattle.reply.specs.Promise.{Reply-done, Read-done}
+use Rattle.reply.specs.Promise.{Read-done}
+use Rattle.reply_writer.specs.Promise.{Reply-done}
 use Rattle.flat_link.specs.declared.FlatGiven.{FlatGiven}
 use Rattle.flat.specs.declared.FlatWritten.{FlatWritten}
 use Rattle.flat.specs.Flat.{flatWritten}

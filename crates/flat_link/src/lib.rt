@@ -425,7 +425,7 @@ fn kind_out(given: u8, kind: CallKind) -> u8
     }
 }
 
-// Writes a reply: see `reply::write_reply`. Another call or reply is a field that breaks its rule. A number that the reply does not have is not
+// Writes a reply: see `reply_writer::write_reply`. Another call or reply is a field that breaks its rule. A number that the reply does not have is not
 // read; a carry is set where its number is not 0.
 pub fn write_reply(
     call: u8,
@@ -444,7 +444,7 @@ pub fn write_reply(
     if reply_known(call, reply) {
         let given = reply_at(reply, carry, x, y, a);
         let kind = kind_at(call, out_length);
-        return flat::flat_written(reply::write_reply(kind, given, block, text, out));
+        return flat::flat_written(reply_writer::write_reply(kind, given, block, text, out));
     }
     if Text::LIMIT < text.len() {
         return flat::flat_written(Written::TooLong);

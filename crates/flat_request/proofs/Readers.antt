@@ -17,16 +17,16 @@ use Rattle.request_reader.specs.declared.Reader.{Reader}
 use Rattle.request_reader.specs.declared.Answer.{Answer}
 use Rattle.request_reader.specs.declared.Answer.the-variants.{More, Character, Request, Refused}
 use Rattle.request_reader.specs.declared.Stepped.{Stepped}
-use Rattle.request_reader.specs.declared.Fed.{Fed}
+use Rattle.request_loop.specs.declared.Fed.{Fed}
 use Rattle.request_reader.specs.View.{carrierOf, viewOf, answerOf, lentAfter, Step-done}
 use Rattle.request_reader.specs.Read.{Read}
 use Rattle.request_reader.specs.Read as reads
-use Rattle.request_reader.specs.Feed.{told, Feed-done}
-use Rattle.request_reader.proofs.Feed.{one-fed}
+use Rattle.request_loop.specs.Feed.{told, Feed-done}
+use Rattle.request_loop.proofs.Feeds.{one-fed}
 use Rattle.flat.proofs.Flags.{flag-back, flag-same}
-use Rattle.flat_request.specs.declared.FlatReader.{FlatReader}
-use Rattle.flat_request.specs.declared.FlatRead.{FlatRead}
-use Rattle.flat_request.specs.Readers.{carrierAt, phaseAt, carrierNumber, phaseNumber, readerOf, tagsOk, flatView, flatAnswer, flatOf, flatRead, Flat-done}
+use Rattle.flat_reader.specs.declared.FlatReader.{FlatReader}
+use Rattle.flat_reader.specs.declared.FlatRead.{FlatRead}
+use Rattle.flat_reader.specs.Readers.{carrierAt, phaseAt, carrierNumber, phaseNumber, readerOf, tagsOk, flatView, flatAnswer, flatOf, flatRead, Flat-done}
 use Rattle.flat_request.specs.Feeds.{FlatReads, stop, took, flatTold, Flat-feed-done}
 
 -- from a reader and back
@@ -147,13 +147,13 @@ feed-flat e {left = left} {r = r} d =
 own : (f : FlatReader) {p : Reader} → tagsOk f ≡ true → p ≡ readerOf f → flatOf (f .escape) p ≡ f
 own f ok u = ap (flatOf (f .escape)) u ∙ flat-back f ok
 
-module _ {f g : FlatReader} {p : Reader} {lent left : List ℕ} {r : Fed} {o : FlatRead} (ok : tagsOk f ≡ true) (u : p ≡ readerOf f)
-    (k : g ≡ flatOf (f .escape) (r .reader)) (e : o ≡ flatRead g (r .answer)) where
+module _ {f : FlatReader} {p : Reader} {lent left : List ℕ} {r : Fed} {o : FlatRead} (ok : tagsOk f ≡ true) (u : p ≡ readerOf f)
+    (e : o ≡ flatRead (flatOf (f .escape) (r .reader)) (r .answer)) where
   pub read-byte : {x : ℕ} → Feed-done p lent (x ∷ []) r left → Flat-done f lent x o left
-  read-byte d = rw (e, k) (rw (own f ok u) at (step-flat (f .escape) (one-fed d)))
+  read-byte d = rw e (rw (own f ok u) at (step-flat (f .escape) (one-fed d)))
 
   pub read-slice : {raw : List ℕ} → Feed-done p lent raw r left → Flat-feed-done f lent raw (record { read = o; used = r .used }) left
-  read-slice d = rw (e, k) (rw (own f ok u) at (feed-flat (f .escape) d))
+  read-slice d = rw e (rw (own f ok u) at (feed-flat (f .escape) d))
 
 -- one with a tag out of range is refused
 pub out-of-range : {f : FlatReader} {lent : List ℕ} {raw : ℕ} {o : FlatRead} → tagsOk f ≡ false → o ≡ flatRead f (Refused 7) → Flat-done f lent raw o lent

@@ -6,10 +6,10 @@ use mathlib.Core.List.{List, [], _∷_, _++_}
 use lib.Dec.{eqb}
 use lib.ListN.{length, take, replicate}
 use Rattle.serial_rules.specs.Reader as rules
-use Rattle.flat_request.specs.declared.FlatReader.{FlatReader}
-use Rattle.flat_request.specs.declared.FlatRead.{FlatRead}
+use Rattle.flat_reader.specs.declared.FlatReader.{FlatReader}
+use Rattle.flat_reader.specs.declared.FlatRead.{FlatRead}
 use Rattle.flat_request.specs.declared.FlatFed.{FlatFed}
-use Rattle.flat_request.specs.Readers.{flatAnswer, Flat-done}
+use Rattle.flat_reader.specs.Readers.{flatAnswer, Flat-done}
 
 -- from a flat record and its lent body, over raw bytes, with the answers, to the flat record and the lent body left
 pub data FlatReads : FlatReader → List ℕ → List ℕ → List rules.Answer → FlatReader → List ℕ → Type 0 where

@@ -1,9 +1,7 @@
--- The program's kinds and shapes, as the rules speak of them.
+-- The program's kinds, as the rules speak of them.
 use Rattle.serial_rules.specs.Reply as rules
 use Rattle.kind.specs.declared.CallKind.{CallKind}
 use Rattle.kind.specs.declared.CallKind.the-variants.{Osrdch, Oscli, OsbyteLow, OsbyteHigh, Osword, Osword0, Osargs, Osbget, Osbput, OsfindClose, OsfindOpen, Osfile, Osgbpb}
-use Rattle.kind.specs.declared.Shape.{Shape}
-use Rattle.kind.specs.declared.Shape.the-variants.{Fixed, Line, Text}
 
 abbrev pub kindFor : CallKind → rules.Kind
 kindFor Osrdch = rules.osrdch
@@ -19,8 +17,3 @@ kindFor OsfindClose = rules.osfindClose
 kindFor OsfindOpen = rules.osfindOpen
 kindFor Osfile = rules.osfile
 kindFor Osgbpb = rules.osgbpb
-
-abbrev pub shapeFor : Shape → rules.Shape
-shapeFor (Fixed n) = rules.fixed n
-shapeFor Line = rules.line
-shapeFor Text = rules.text

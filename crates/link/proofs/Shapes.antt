@@ -11,8 +11,8 @@ use Rattle.serial_rules.specs.Body.{Turn, more, done, refused}
 use Rattle.serial_rules.specs.Reply.{Shape, fixed, line, text, shapeTurn, longest}
 use Rattle.turns.specs.Turns.{turnOf}
 use Rattle.turns.specs.declared.Turn as turn
-use Rattle.kind.specs.Kinds.{shapeFor}
-use Rattle.kind.specs.declared.Shape as shape
+use Rattle.shapes.specs.Shapes.{shapeFor}
+use Rattle.shapes.specs.declared.Shape as shape
 
 -- what holds on both sides holds of the choice
 choice : {A : Type 0} (P : A → Type 0) (t : Bool) {a b : A} → (t ≡ true → P a) → (t ≡ false → P b) → P (cond t a b)

@@ -1,14 +1,14 @@
 // The client's end of the serial lead: a link is idle or waits for the reply to one call, and actions may come inside it.
 use escape::Piece;
 use kind::CallKind;
-use kind::Shape;
+use shapes::Shape;
 use turns::Turn;
 ghost use Prim.Native.Nat.{_<_, _≤_};
 ghost use mathlib.Core.Path.{_≡_};
 ghost use mathlib.Core.Bool.{true};
 ghost use lib.ListN.{length};
 ghost use Rattle.serial_rules.specs.Link.{ownShape};
-ghost use Rattle.kind.specs.Kinds.{shapeFor};
+ghost use Rattle.shapes.specs.Shapes.{shapeFor};
 ghost use Rattle.link.specs.declared.Wait.the-variants.{Waiting};
 ghost use Rattle.link.specs.declared.Doing.the-variants.{Open};
 ghost use Rattle.link.specs.View.{actionFor, replyRoom, ownRoom, usableOf, fresh, Begin-done, Step-done};
@@ -209,7 +209,7 @@ impl Link {
         requires { ⌜ usableOf self ≡ true ⌝ }
         ensures { λ r. ⌜ Opening-done self m r ⌝ }
     {
-        let class = escape::inward_class(m);
+        let class = marks::inward_class(m);
         match class {
             1 => self.going(Answer::More, Doing::Open(Action::Error), 0),
             2 => self.going(Answer::EscapeState(m % 2 == 1), Doing::Quiet, 0),

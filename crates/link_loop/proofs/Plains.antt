@@ -16,9 +16,9 @@ use Rattle.serial_rules.specs.Link as rules
 use Rattle.turns.specs.Plain.{plain, Plains, none, one, Plain-done}
 use Rattle.turns.proofs.Plain.{no-escape, done-plains, done-most, part-sets}
 use Rattle.kind.specs.Kinds.{kindFor}
-use Rattle.kind.specs.Ahead.{aheadOf}
+use Rattle.shapes.specs.Ahead.{aheadOf}
 use Rattle.kind.specs.declared.CallKind.{CallKind}
-use Rattle.kind.proofs.Ahead.{ahead-more, ahead-fits}
+use Rattle.shapes.proofs.Ahead.{ahead-more, ahead-fits}
 use Rattle.link.specs.declared.Wait.{Wait}
 use Rattle.link.specs.declared.Wait.the-variants.{Waiting}
 use Rattle.link.specs.declared.Doing.{Doing}

@@ -16,8 +16,8 @@ use Rattle.fields.specs.Promise.{number}
 use Rattle.fields.proofs.Wrote.{wrote}
 use Rattle.kind.specs.Kinds.{kindFor}
 use Rattle.kind.specs.declared.CallKind.{CallKind}
-use Rattle.request_writer.specs.declared.Call.{Call}
-use Rattle.request_writer.specs.Calls.{callOf}
+use Rattle.calls.specs.declared.Call.{Call}
+use Rattle.calls.specs.Calls.{callOf}
 use Rattle.request_writer.specs.Promise.{Request-done}
 use Rattle.request_reader.specs.declared.Carrier.the-variants.{Serial}
 use Rattle.request_reader.specs.declared.Reader.{Reader}
@@ -28,7 +28,8 @@ use Rattle.link.specs.declared.Link.{Link}
 use Rattle.link.specs.declared.Started.{Started}
 use Rattle.link.specs.View.{begunOf, fresh, Begin-done}
 use Rattle.reply.specs.declared.Reply.{Reply}
-use Rattle.reply.specs.Promise.{replyFor, Reply-done}
+use Rattle.reply.specs.Promise.{replyFor}
+use Rattle.reply_writer.specs.Promise.{Reply-done}
 use Rattle.replies.specs.Sessions.{Sessions}
 use Rattle.replies.proofs.Trips.{Answered, written-read}
 

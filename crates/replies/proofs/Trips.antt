@@ -25,7 +25,8 @@ use Rattle.link.specs.declared.Started.{Started}
 use Rattle.link.specs.View.{usableOf, viewOf, reportOf, begunOf, fresh, Step-done, Begin-done}
 use Rattle.reply.specs.declared.Reply.{Reply}
 use Rattle.reply.specs.declared.Given.{Given}
-use Rattle.reply.specs.Promise.{replyFor, Reply-done, givenIn, Read-done}
+use Rattle.reply.specs.Promise.{replyFor, givenIn, Read-done}
+use Rattle.reply_writer.specs.Promise.{Reply-done}
 use Rattle.replies.specs.Sessions.{Sessions}
 use Rattle.replies.proofs.Sessions.{as-ruled}
 

@@ -1,27 +1,22 @@
--- The fields of a reply in its bytes, and a writer's answers by their tests.
+-- The fields of a reply in its bytes.
 use Prim.Native.Nat.{ℕ, _+_, _-_, _≤_, _<_}
 use mathlib.Core.Path.{_≡_, refl, sym, ap, subst, _∙_}
-use mathlib.Core.Bool.{Bool, true, false, not}
+use mathlib.Core.Bool.{Bool, true, false}
 use mathlib.Core.List.{List, [], _∷_}
 use native.Mathlib.Omega.{arith}
 use lib.Dec.{ltb}
-use lib.ListN.{length, take, drop, length-take, List·getD-eq-default}
+use lib.ListN.{length, take, drop, List·getD-eq-default}
 use lib.Seq.{take-all, take-length}
-use borrow.Author.Tests.{ltb-true, ltb-false, not-true, not-false}
-use Rattle.serial_rules.specs.Escape.{escaped}
+use borrow.Author.Tests.{ltb-true, ltb-false}
 use Rattle.serial_rules.specs.Fields.{at}
 use Rattle.serial_rules.specs.Reply as rules
-use Rattle.fields.specs.Promise.{Writer-done}
-use Rattle.fields.specs.declared.Written.{Written}
-use Rattle.fields.specs.declared.Written.the-variants.{TooLong, BadField}
 use Rattle.kind.specs.Kinds.{kindFor}
 use Rattle.kind.specs.declared.CallKind.{CallKind}
 use Rattle.reply.specs.declared.Reply.{Reply}
 use Rattle.reply.specs.declared.Reply.the-variants.{ReadLine, EscapedLine}
 use Rattle.reply.specs.declared.Given.{Given}
-use Rattle.reply.specs.declared.Parts.{Parts}
 use Rattle.reply.specs.Promise.{replyFor, Given-done}
-use Rattle.reply.specs.Parts.{Bytes-done, partsBytes, partsOk, Parts-done, numbersAt, blockAt}
+use Rattle.reply.specs.Parts.{numbersAt, blockAt}
 
 -- a reply of numbers alone
 pub numbers-given : (s : List ℕ) (r : Reply) (g : rules.Reply) → replyFor r ≡ g → Given-done s (rules.given g [] []) (numbersAt r)
@@ -65,37 +60,6 @@ pub typed-given : (s : List ℕ) → rules.flag (at s 0) ≡ false → 2 ≤ len
     → Given-done s (rules.replyRead rules.osword0 s) (record { reply = ReadLine; «block_start» = 0; «block_length» = 0; «text_start» = 1; «text_length» = length s - 2 })
 unfolding rules.replyRead
 typed-given s h m = rw h (record { reply-is = refl; block-within = omega arith; text-within = omega arith })
-
--- Parts are a reply's where they are those of the reply that is known, value by value.
-pub filled : {given known : Reply} {r p : Parts} → given ≡ known → r ≡ p → p .form ≡ rules.formIn (replyFor known) → p .line ≡ rules.hasLine (replyFor known)
-    → ((b t : List ℕ) → partsBytes p b t ≡ rules.replyBytes (replyFor known) b t) → p .before ≤ length (p .head) → p .behind ≤ length (p .tail)
-    → Parts-done (replyFor given) r
-filled is e form line bytes before behind =
-    rw (is, e) (record { form-is = form; line-is = line; bytes-are = bytes; before-fits = before; behind-fits = behind })
-
--- the first n of a list are n
-pub taken : (n : ℕ) (l : List ℕ) → n ≤ length l → n ≡ length (take n l)
-taken n l h = simp length-take (omega arith)
-
--- The writer: refused, or the bytes of its parts are those of the reply.
-pub too-long : (k : rules.Kind) (r : rules.Reply) (b t out : List ℕ) → ltb 255 (length t) ≡ true
-    → Writer-done (rules.replyNumber k r b t (length out)) (escaped (rules.replyBytes r b t)) out TooLong out
-unfolding rules.replyNumber
-too-long k r b t out h = simp h (record { answer = refl; written = refl; bytes = refl })
-
-module _ (k : rules.Kind) (r : rules.Reply) (b t out : List ℕ) {p : Parts} {ok : Bool} (short : ltb 255 (length t) ≡ false) (d : Parts-done r p) (e : ok ≡ partsOk k p b t) where
-  judged : ok ≡ rules.replyOk k r b t
-  unfolding partsOk rules.replyOk
-  judged = rw (d .form-is, d .line-is) at e
-
-  pub bad-field : not ok ≡ true → Writer-done (rules.replyNumber k r b t (length out)) (escaped (rules.replyBytes r b t)) out BadField out
-  unfolding rules.replyNumber
-  bad-field h = let o = sym judged ∙ not-true ok h in simp (short, o) (record { answer = refl; written = refl; bytes = refl })
-
-  pub wrote : {left : List ℕ} {w : Written} → not ok ≡ false → Bytes-done (partsBytes p b t) out w left
-      → Writer-done (rules.replyNumber k r b t (length out)) (escaped (rules.replyBytes r b t)) out w left
-  unfolding rules.replyNumber
-  wrote h w = let o = sym judged ∙ not-false ok h in let f = d .bytes-are b t in simp (short, o, ← f) w
 
 -- the kind of the call decides what is read
 pub by-kind : (k q : CallKind) (s : List ℕ) (g : rules.Given) (r : Given) → k ≡ q → rules.replyRead (kindFor q) s ≡ g → Given-done s g r → Given-done s (rules.replyRead (kindFor k) s) r

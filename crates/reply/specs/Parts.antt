@@ -1,43 +1,7 @@
--- What the parts of the writer and of the reading promise.
-use Prim.Native.Nat.{ℕ, _≤_}
-use mathlib.Core.Path.{_≡_}
-use mathlib.Core.Bool.{Bool, cond, not, _&&_, _||_}
-use mathlib.Core.List.{List, [], _++_}
-use lib.Dec.{eqb, ltb}
-use lib.ListN.{length, take}
-use Rattle.serial_rules.specs.Escape.{escaped}
-use Rattle.serial_rules.specs.Call.{hasReturn}
-use Rattle.serial_rules.specs.Reply as rules
-use Rattle.serial_rules.specs.Reply.{Kind, formOf, formIn, blockIn, hasLine, replyBytes}
-use Rattle.fields.specs.Promise.{Writer-done}
-use Rattle.fields.specs.declared.Written.{Written}
+-- What the parts of the reading promise.
+use Prim.Native.Nat.{ℕ}
 use Rattle.reply.specs.declared.Reply.{Reply}
 use Rattle.reply.specs.declared.Given.{Given}
-use Rattle.reply.specs.declared.Parts.{Parts}
-
--- data bytes written: 8 exactly where they do not fit
-abbrev pub Bytes-done : List ℕ → List ℕ → Written → List ℕ → Type 0
-Bytes-done l out r left = Writer-done (cond (ltb (length out) (length (escaped l))) 8 0) (escaped l) out r left
-
-abbrev pub partsWith : ℕ → Bool → Bool → List ℕ → ℕ → List ℕ → ℕ → Parts
-partsWith form block line head before tail behind =
-    record { form = form; block = block; line = line; head = head; before = before; tail = tail; behind = behind }
-
--- the data bytes of parts, with the block b and the string t
-abbrev pub partsBytes : Parts → List ℕ → List ℕ → List ℕ
-partsBytes p b t = take (p .before) (p .head) ++ (cond (p .line) t (cond (p .block) b []) ++ take (p .behind) (p .tail))
-
--- parts fit the kind
-unfoldable pub partsOk : Kind → Parts → List ℕ → List ℕ → Bool
-partsOk kind p b t = eqb (p .form) (formOf kind) && (eqb (length b) (blockIn kind) && ((p .line || eqb (length t) 0) && not (hasReturn t)))
-
--- What the parts of a reply say of it.
-pub record Parts-done (r : rules.Reply) (p : Parts) : Type 0 where
-  pub form-is : p .form ≡ formIn r
-  pub line-is : p .line ≡ hasLine r
-  pub bytes-are : (b t : List ℕ) → partsBytes p b t ≡ replyBytes r b t
-  pub before-fits : p .before ≤ length (p .head)
-  pub behind-fits : p .behind ≤ length (p .tail)
 
 -- a reply of numbers alone, and one with a block
 abbrev pub blockAt : Reply → ℕ → ℕ → Given

@@ -1,12 +1,9 @@
--- The program's replies, as the rules speak of them, and what writing one and reading its fields promise.
+-- The program's replies, as the rules speak of them, and what reading the fields of one promises.
 use Prim.Native.Nat.{ℕ, _+_, _≤_}
 use mathlib.Core.Path.{_≡_}
 use mathlib.Core.List.{List}
 use lib.ListN.{length, take, drop}
-use Rattle.serial_rules.specs.Escape.{escaped}
 use Rattle.serial_rules.specs.Reply as rules
-use Rattle.fields.specs.Promise.{Writer-done}
-use Rattle.fields.specs.declared.Written.{Written}
 use Rattle.kind.specs.Kinds.{kindFor}
 use Rattle.kind.specs.declared.CallKind.{CallKind}
 use Rattle.reply.specs.declared.Reply.{Reply}
@@ -24,11 +21,6 @@ replyFor ReadLine = rules.readLine
 replyFor (ABlock a) = rules.aBlock a
 replyFor Plain = rules.plain
 replyFor (BlockCarryA carry a) = rules.blockCarryA carry a
-
--- What `write_reply` promises of the kind, the reply, the lent bytes before and after, and its answer.
-abbrev pub Reply-done : CallKind → Reply → List ℕ → List ℕ → List ℕ → Written → List ℕ → Type 0
-Reply-done kind reply block text out r left =
-    Writer-done (rules.replyNumber (kindFor kind) (replyFor reply) block text (length out)) (escaped (rules.replyBytes (replyFor reply) block text)) out r left
 
 -- the reply of its numbers and of the parts of the bytes s that are its block and its string
 abbrev pub givenIn : Given → List ℕ → rules.Given

@@ -1,18 +1,14 @@
-// The stepwise reader of requests: one raw byte at a time, or a slice up to its first answer, the body so far in bytes that the caller lends.
+// The stepwise reader of requests: one raw byte at a time, the body so far in bytes that the caller lends.
 use escape::Piece;
 use turns::Turn;
-ghost use Prim.Native.Nat.{_+_, _≤_, _<_};
 ghost use mathlib.Core.Path.{_≡_};
-ghost use mathlib.Core.Bool.{true, false};
+ghost use mathlib.Core.Bool.{true};
 ghost use lib.ListN.{length};
 ghost use Rattle.escape.specs.Layer.{pieceFor};
 ghost use Rattle.serial_rules.specs.Call.{styleOk};
 ghost use Rattle.serial_rules.specs.Reader.{pieceOutside, pieceInside, starts};
 ghost use Rattle.serial_rules.specs.Escape.{mark, dataByte};
 ghost use Rattle.request_reader.specs.View.{carrierOf, within, fresh, Step-done};
-ghost use Rattle.request_reader.specs.declared.Phase.the-variants.{Inside};
-ghost use Rattle.request_reader.specs.Feed.{Feed-done};
-ghost use Rattle.request_reader.specs.Pass.{passedFrom, Pass-done};
 ghost use Rattle.request_reader.specs.Parts.{standingOf, refusedFrom, restingFrom, goingFrom, Outside-done, Inside-done};
 
 // The serial lead, with the escape layer and marks, or the parallel side, with plain codes and bodies.
@@ -51,13 +47,6 @@ pub struct Stepped {
     pub reader: Reader,
 }
 
-// What a slice of raw bytes gives: its first answer that is not need-more, or need-more where it ends first; the bytes used; the reader.
-pub struct Fed {
-    pub answer: Answer,
-    pub used: usize,
-    pub reader: Reader,
-}
-
 impl Reader {
     pub fn new(carrier: Carrier) -> Reader
         ensures { λ r. ⌜ r ≡ fresh carrier ⌝ }
@@ -92,78 +81,6 @@ impl Reader {
             },
             Phase::Outside => self.outside_step(raw),
             Phase::Inside => self.inside_step(raw, body),
-        }
-    }
-
-    // Raw bytes, up to the first answer that is not need-more.
-    pub fn feed(self, raw: &[u8], body: &mut [u8; 273]) -> Fed
-        ensures { λ r. ⌜ Feed-done self (now (body .entry)) (now (raw .entry)) r (now (body .exit)) ⌝ }
-    {
-        let mut at = self;
-        let mut i: usize = 0;
-        while i < raw.len() {
-            let step = at.step(raw[i], body);
-            at = step.reader;
-            i += 1;
-            let answer = step.answer;
-            let Answer::More = answer else {
-                return Fed {
-                    answer: answer,
-                    used: i,
-                    reader: at,
-                };
-            };
-            let n = at.pass(&raw[i..], body);
-            at = at.passed(n);
-            i += n;
-        }
-        Fed {
-            answer: Answer::More,
-            used: i,
-            reader: at,
-        }
-    }
-
-    // Plain raw bytes in the middle of a field: each would need more, and they are stored at once. Returns how many.
-    fn pass(self, raw: &[u8], body: &mut [u8]) -> usize
-        requires { ⌜ (self .phase ≡ Inside → within self ≡ true) × (length (now body) ≡ 273) ⌝ }
-        ensures { λ r. ⌜ Pass-done self (now (body .entry)) (now (raw .entry)) r (now (body .exit)) ⌝ }
-    {
-        if self.escape {
-            return 0;
-        }
-        let phase = self.phase;
-        match phase {
-            Phase::Outside => 0,
-            Phase::Stopped => 0,
-            Phase::Inside => self.pass_body(raw, body),
-        }
-    }
-
-    fn pass_body(self, raw: &[u8], body: &mut [u8]) -> usize
-        requires { ⌜ (self .phase ≡ Inside) × (within self ≡ true) × (self .escape ≡ false) × (length (now body) ≡ 273) ⌝ }
-        ensures { λ r. ⌜ Pass-done self (now (body .entry)) (now (raw .entry)) r (now (body .exit)) ⌝ }
-    {
-        let count = self.count;
-        let most = bodies::ahead(self.code, &body[..count]);
-        let end = count + most;
-        turns::copy_plain(raw, &mut body[count..end])
-    }
-
-    // The reader after that many bytes of the body.
-    fn passed(self, n: usize) -> Reader
-        requires { ⌜ (0 < n → self .count + n ≤ 273) ⌝ }
-        ensures { λ r. ⌜ r ≡ passedFrom self n ⌝ }
-    {
-        let carrier = self.carrier;
-        let phase = self.phase;
-        Reader {
-            carrier: carrier,
-            phase: phase,
-            escape: self.escape,
-            style: self.style,
-            code: self.code,
-            count: self.count + n,
         }
     }
 
@@ -364,7 +281,7 @@ fn starts_request(carrier: Carrier, m: u8) -> bool
     ensures { λ r. ⌜ r ≡ starts (carrierOf carrier) m ⌝ }
 {
     match carrier {
-        Carrier::Serial => escape::outward_class(m) == 1,
+        Carrier::Serial => marks::outward_class(m) == 1,
         Carrier::Parallel => {
             if m % 2 == 1 {
                 return false;

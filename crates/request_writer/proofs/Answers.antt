@@ -11,15 +11,15 @@ use Rattle.serial_rules.specs.Call.{Carrier, serial, parallel, stringLimit, cal
 use Rattle.serial_rules.specs.Call as rules
 use Rattle.serial_rules.proofs.Trip.{and-both}
 use Rattle.fields.specs.declared.Written.the-variants.{Done, TooLong, BadField, NoRoom}
-use Rattle.fields.specs.Carriers.{carrierOf, coded}
+use Rattle.room.specs.Carriers.{carrierOf, coded}
 use Rattle.fields.specs.Promise.{Length-done}
 use Rattle.fields.proofs.Laws.{told-done, told-none}
-use Rattle.request_writer.specs.declared.Call.{Call}
-use Rattle.request_writer.specs.declared.Row.{Row}
-use Rattle.request_writer.specs.Calls.{callOf}
+use Rattle.calls.specs.declared.Call.{Call}
+use Rattle.calls.specs.declared.Row.{Row}
+use Rattle.calls.specs.Calls.{callOf}
 use Rattle.request_writer.specs.Promise.{Request-done}
-use Rattle.request_writer.specs.Rows.{lengthByte, headIn, tailIn, givenOk, Row-done, Writable}
-use Rattle.request_writer.proofs.Rows.{rules-same, code-fits, written}
+use Rattle.calls.specs.Rows.{lengthByte, headIn, tailIn, givenOk, Row-done, Writable}
+use Rattle.calls.proofs.Rows.{rules-same, code-fits, written}
 
 -- The number of the answer after each check.
 module _ (carrier : Carrier) (style : ℕ) (call : rules.Call) (b t : List ℕ) (room : ℕ) where

@@ -5,8 +5,8 @@ use lib.ListN.{length}
 use Rattle.serial_rules.specs.Call.{Carrier, encodingOf, writerNumber}
 use Rattle.fields.specs.declared.Written.{Written}
 use Rattle.fields.specs.Promise.{Writer-done}
-use Rattle.request_writer.specs.declared.Call.{Call}
-use Rattle.request_writer.specs.Calls.{callOf}
+use Rattle.calls.specs.declared.Call.{Call}
+use Rattle.calls.specs.Calls.{callOf}
 
 abbrev pub Request-done : Carrier → ℕ → Call → List ℕ → List ℕ → List ℕ → Written → List ℕ → Type 0
 Request-done carrier style call block text out r left =

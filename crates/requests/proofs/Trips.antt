@@ -15,11 +15,11 @@ use Rattle.serial_rules.specs.Stream.{readerAfter, answers, Gives, rawOf}
 use Rattle.serial_rules.proofs.Trip.{All, and-both}
 use Rattle.serial_rules.proofs.Fields.{fields-back, kind-back}
 use Rattle.serial_rules.proofs.Standing.{finished-good, raw-encoding}
-use Rattle.request_writer.specs.declared.Call.{Call}
+use Rattle.calls.specs.declared.Call.{Call}
 use Rattle.fields.specs.declared.Written.{Written}
 use Rattle.fields.specs.Promise.{number}
 use Rattle.fields.proofs.Wrote.{wrote, wrote-is, checks}
-use Rattle.request_writer.specs.Calls.{callOf}
+use Rattle.calls.specs.Calls.{callOf}
 use Rattle.request_writer.specs.Promise.{Request-done}
 use Rattle.request_reader.specs.declared.Carrier.{Carrier}
 use Rattle.request_reader.specs.declared.Reader.{Reader}

@@ -19,7 +19,8 @@ use Rattle.chip_rules.specs.Trace.{stop, access, reset}
 use Rattle.chip_rules.proofs.History.{replies-append}
 use Rattle.chip_rules.proofs.Trace.{trace-append}
 use Rattle.script.specs.declared.Stepped.{Stepped}
-use Rattle.script.specs.Script.{eventOf, records, finalAnswer, resultsOf, Done, Step-done, Records-done, fits, Play-done, ending}
+use Rattle.script.specs.Script.{eventOf, records, finalAnswer, resultsOf, Done, Step-done, Records-done, fits, Play-done}
+use Rattle.script_end.specs.Ending.{ending}
 
 -- the record at place i
 abbrev pub eventAt : List ℕ → ℕ → Event

@@ -78,10 +78,6 @@ pub record Play-done (chip : Chip) (script : List ℕ) (limit : ℕ) (before : L
   -- every lent byte: the results, then the bytes beyond as they were
   pub results : left ≡ resultsOf (view chip) (playedOf limit script before) ++ drop (3 * length (playedOf limit script before)) before
 
--- the final answer, by the bytes that are left of the script and the records that are left of the limit
-abbrev pub ending : ℕ → ℕ → ℕ
-ending bytes left = cond (eqb bytes 0) 0 (cond (eqb left 0) 10 11)
-
 -- The replies to the accesses of a script, read off its result bytes.
 unfoldable pub repliesIn : List Event → List ℕ → List Reply
 repliesIn [] l = []

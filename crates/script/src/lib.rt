@@ -1,8 +1,7 @@
 // Plays a script of accesses: records of three bytes, and three result bytes for each.
-ghost use Prim.Native.Nat.{_+_, _*_, _≤_, _<_};
-ghost use mathlib.Core.Path.{_≡_};
+ghost use Prim.Native.Nat.{_*_, _≤_};
 ghost use lib.ListN.{length};
-ghost use Rattle.script.specs.Script.{eventOf, ending, Step-done, Records-done, Play-done};
+ghost use Rattle.script.specs.Script.{eventOf, Step-done, Records-done, Play-done};
 use chip::Chip;
 
 // What one record gives: the number of the answer, the byte, the line value after it, and the chip.
@@ -26,7 +25,7 @@ pub struct Played {
 pub fn play(chip: Chip, script: &[u8], limit: usize, results: &mut [u8]) -> Played
     ensures { λ r. ⌜ Play-done chip (now (script .entry)) limit (now (results .entry)) r (now (results .exit)) ⌝ }
 {
-    let n = record_count(script.len(), limit);
+    let n = script_end::record_count(script.len(), limit);
     if results.len() < 3 * n {
         return Played {
             played: 0,
@@ -35,7 +34,7 @@ pub fn play(chip: Chip, script: &[u8], limit: usize, results: &mut [u8]) -> Play
         };
     }
     let after = play_records(chip, script, n, results);
-    let answer = final_answer(script.len() - 3 * n, limit - n);
+    let answer = script_end::final_answer(script.len() - 3 * n, limit - n);
     Played {
         played: n,
         answer: answer,
@@ -85,25 +84,4 @@ fn play_records(chip: Chip, script: &[u8], n: usize, results: &mut [u8]) -> Chip
         i += 1;
     }
     c
-}
-
-// The smaller of the limit and the whole records in so many bytes.
-fn record_count(bytes: usize, limit: usize) -> usize
-    ensures { λ r. ⌜ (r ≤ limit) × (3 * r ≤ bytes) × (r < limit → bytes < 3 * r + 3) ⌝ }
-{
-    let whole = bytes / 3;
-    if limit < whole { limit } else { whole }
-}
-
-// The final answer, by the bytes that are left of the script and the records that are left of the limit.
-fn final_answer(bytes: usize, records: usize) -> u8
-    ensures { λ r. ⌜ r ≡ ending bytes records ⌝ }
-{
-    if bytes == 0 {
-        return 0;
-    }
-    if records == 0 {
-        return 10;
-    }
-    11
 }

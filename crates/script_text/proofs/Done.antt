@@ -1,26 +1,39 @@
 -- The two ends of `write_text`: refused with nothing written, and written whole.
 use Prim.Native.Nat.{ℕ, _+_, _*_, _≤_, _<_}
 use native.Mathlib.Omega.{arith}
-use borrow.Author.Tests.{leb-true, leb-false, le-leb, lt-leb}
-use mathlib.Core.Bool.{Bool, true, false, cond}
+use borrow.Author.Tests.{leb-true, le-leb}
+use mathlib.Core.Bool.{Bool, true, false, cond, _&&_, true≢false}
 use mathlib.Core.Path.{_≡_, refl, ap, sym, _∙_}
 use mathlib.Core.List.{List, _++_}
 use lib.Dec.{leb}
-use lib.ListN.{length, drop, getD, length-append}
+use lib.ListN.{length, drop, getD}
 use lib.Seq.{length-take-le}
-use Rattle.script_text.specs.Text.{linesOf, endOf, textOf, fits, Text-done}
+use Rattle.script_lines.specs.Text.{linesOf, endOf, textOf}
+use Rattle.script_text.specs.Text.{fits, Text-done}
 use Rattle.script_text.specs.Write.{put, Wrote}
-use Rattle.script_text.proofs.Room.{always-fits}
+use Rattle.script_lines.proofs.Room.{always-enough, text-length}
 
-module _ (results : List ℕ) (played answer : ℕ) (out : List ℕ) where
-  text-length : length (textOf results played answer) ≡ length (linesOf played results) + length (endOf played answer)
-  unfolding textOf
-  text-length = simp length-append
+-- so `write_text` writes it into a buffer of 49165 bytes
+always-fits : (results : List ℕ) (played answer : ℕ) (out : List ℕ) → played ≤ 4096 → ((i : ℕ) → getD results i 0 < 256) → answer < 256
+    → 3 * played ≤ length results → 49165 ≤ length out → fits results played answer out ≡ true
+unfolding fits
+always-fits results played answer out h₁ h₂ h₃ h₄ h₅ =
+    let h = always-enough results played answer h₁ h₂ h₃ in
+    rw (le-leb (3 * played) (length results) h₄, le-leb (length (textOf results played answer)) (length out) (omega arith))
 
-  -- what the exact test of the room says, either way, where the last line takes `last` bytes
-  pub enough : {last : ℕ} {b : Bool} → last ≡ length (endOf played answer) → b ≡ leb (length (linesOf played results) + last) (length out) → b ≡ true
-      → length (linesOf played results) + length (endOf played answer) ≤ length out
-  enough {last} e f g = omega (arith, leb-true (length (linesOf played results) + last) (length out) (sym f ∙ g))
+both : (a b : Bool) → (a && b) ≡ true → (a ≡ true) × (b ≡ true)
+both true b h = (refl, h)
+both false b h = absurd (true≢false (sym h))
+
+-- what the test says, either way
+module _ (results : List ℕ) (played answer : ℕ) (out : List ℕ) {ok : Bool}
+    (e : ok ≡ (leb (3 * played) (length results) && leb (length (textOf results played answer)) (length out))) (h : ok ≡ true) where
+  pub held : 3 * played ≤ length results
+  held = leb-true (3 * played) (length results) (both _ _ (sym e ∙ h) .0)
+
+  pub enough : length (linesOf played results) + length (endOf played answer) ≤ length out
+  enough =
+      omega (arith, text-length results played answer 0, leb-true (length (textOf results played answer)) (length out) (both (leb (3 * played) (length results)) _ (sym e ∙ h) .1))
 
 -- what is lent are bytes
 module _ (results : List ℕ) (played answer : ℕ) (out : List ℕ) (bytes : (i : ℕ) → getD results i 0 < 256) (byte : answer < 256) where
@@ -33,17 +46,10 @@ module _ (results : List ℕ) (played answer : ℕ) (out : List ℕ) (bytes : (i
   refused e =
       record { length-is = rw e; text = rw e; enough = with-room (rw e); within = omega arith; taken = refl }
 
-  pub few : length results < 3 * played → Text-done results played answer out 0 out
+  pub short : {ok : Bool} → ok ≡ (leb (3 * played) (length results) && leb (length (textOf results played answer)) (length out)) → ok ≡ false
+      → Text-done results played answer out 0 out
   unfolding fits
-  few h = refused (rw (lt-leb (3 * played) (length results) h))
-
-  pub short : {last : ℕ} {b : Bool} → 3 * played ≤ length results → last ≡ length (endOf played answer)
-      → b ≡ leb (length (linesOf played results) + last) (length out) → b ≡ false → Text-done results played answer out 0 out
-  unfolding fits
-  short {last} h e f g =
-      let s = leb-false (length (linesOf played results) + last) (length out) (sym f ∙ g) in
-      refused
-      (rw (le-leb (3 * played) (length results) h, lt-leb (length (textOf results played answer)) (length out) (omega (arith, text-length results played answer out))))
+  short e h = refused (sym e ∙ h)
 
   pub full : {left : List ℕ} {r : ℕ} → 3 * played ≤ length results → Wrote 0 (linesOf played results ++ endOf played answer) out left r
       → Text-done results played answer out r left

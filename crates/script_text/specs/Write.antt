@@ -1,17 +1,8 @@
 -- What the functions below `write_text` promise one another.
 use Prim.Native.Nat.{ℕ, _+_, _≤_}
 use mathlib.Core.Path.{_≡_}
-use mathlib.Core.List.{List, [], _∷_, _++_}
+use mathlib.Core.List.{List, _++_}
 use lib.ListN.{length, take, drop}
-use Rattle.script_text.specs.Text.{digitsOf, decimal}
-
--- a number in decimal, and the byte that ends it
-unfoldable pub fieldOf : ℕ → ℕ → List ℕ
-fieldOf n end = decimal n ++ (end ∷ [])
-
--- "end "
-abbrev pub endWord : List ℕ
-endWord = 101 ∷ 110 ∷ 100 ∷ 32 ∷ []
 
 -- `out` with its bytes from `at` on replaced by t
 unfoldable pub put : ℕ → List ℕ → List ℕ → List ℕ
@@ -23,8 +14,3 @@ pub record Wrote (at : ℕ) (t out left : List ℕ) (r : ℕ) : Type 0 where
   pub long : length left ≡ length out
   pub room : r ≤ length out
   pub text : left ≡ put at t out
-
--- r counts the digits
-pub record Counted (k n r : ℕ) : Type 0 where
-  pub digits : r ≡ length (digitsOf k n)
-  pub most : r ≤ k

@@ -1,11 +1,11 @@
 // The text of a played script: a line for each record, and the last line.
 ghost use Prim.Native.Nat.{_+_, _*_, _≤_};
-ghost use mathlib.Core.Path.{_≡_};
 ghost use mathlib.Core.List.{[], _∷_};
-ghost use lib.Dec.{leb};
 ghost use lib.ListN.{length};
-ghost use Rattle.script_text.specs.Text.{digitsOf, lineOf, linesOf, endOf, Text-done};
-ghost use Rattle.script_text.specs.Write.{endWord, fieldOf, Wrote, Counted};
+ghost use Rattle.script_lines.specs.Text.{digitsOf, lineOf, linesOf, endOf};
+ghost use Rattle.script_lines.specs.Fields.{endWord, fieldOf};
+ghost use Rattle.script_text.specs.Text.{Text-done};
+ghost use Rattle.script_text.specs.Write.{Wrote};
 
 // A number of 64 bits has at most 20 decimal digits.
 const DIGITS: usize = 20;
@@ -15,66 +15,11 @@ const DIGITS: usize = 20;
 pub fn write_text(results: &[u8], played: usize, answer: u8, out: &mut [u8]) -> usize
     ensures { λ r. ⌜ Text-done (now (results .entry)) played answer (now (out .entry)) r (now (out .exit)) ⌝ }
 {
-    if results.len() / 3 < played {
-        return 0;
-    }
-    let last = end_length(played, answer);
-    if lines_fit(results, played, last, out.len()) {
+    if script_lines::text_fits(results, played, answer, out.len()) {
         let at = put_lines(results, played, out);
         return put_end(out, at, played, answer);
     }
     0
-}
-
-// Whether the lines of n records and `more` bytes after them fit into `room` bytes. What is left of the room is counted down, so that
-// no sum overflows.
-fn lines_fit(results: &[u8], n: usize, more: usize, room: usize) -> bool
-    requires { ⌜ 3 * n ≤ length (now results) ⌝ }
-    ensures { λ r. ⌜ r ≡ leb (length (linesOf n (now (results .entry))) + more) room ⌝ }
-{
-    if room < more {
-        return false;
-    }
-    let mut left = room - more;
-    let mut i: usize = 0;
-    while i < n {
-        let from = 3 * i;
-        let line = line_length(results[from], results[from + 1], results[from + 2]);
-        if left < line {
-            return false;
-        }
-        left -= line;
-        i += 1;
-    }
-    true
-}
-
-fn line_length(answer: u8, byte: u8, line: u8) -> usize
-    ensures { λ r. ⌜ r ≡ length (lineOf answer byte line) ⌝ }
-{
-    digit_count(DIGITS, answer as usize)
-        + digit_count(DIGITS, byte as usize)
-        + digit_count(DIGITS, line as usize)
-        + 3
-}
-
-fn end_length(played: usize, answer: u8) -> usize
-    ensures { λ r. ⌜ r ≡ length (endOf played answer) ⌝ }
-{
-    digit_count(DIGITS, played) + digit_count(DIGITS, answer as usize) + 6
-}
-
-// How many digits `put_digits` writes.
-fn digit_count(k: usize, n: usize) -> usize
-    ensures { λ r. ⌜ Counted k n r ⌝ }
-{
-    if k == 0 {
-        return 0;
-    }
-    if n < 10 {
-        return 1;
-    }
-    digit_count(k - 1, n / 10) + 1
 }
 
 // The writers below put their text into `out`, from `at` on where they have it, and answer the place behind it.

@@ -12,8 +12,9 @@ use Rattle.chip.specs.Record.{view}
 use Rattle.script.specs.declared.Played.{Played}
 use Rattle.script.specs.Script.{records, finalAnswer, resultsOf, fits as results-fit, playedOf, Play-done}
 use Rattle.script.proofs.Laws.{played-min, results-length}
-use Rattle.script_text.specs.Text.{textOf, fits as text-fits, Text-done}
-use Rattle.script_text.proofs.Lines.{text-front}
+use Rattle.script_lines.specs.Text.{textOf}
+use Rattle.script_text.specs.Text.{fits as text-fits, Text-done}
+use Rattle.script_lines.proofs.Lines.{text-front}
 use Rattle.transcript.specs.Transcript.{textFor, Transcript-done}
 
 module _ (chip : Chip) (script before : List ℕ) (p : Played) (results : List ℕ) (room : length before ≡ 12288) (d : Play-done chip script 4096 before p results) where

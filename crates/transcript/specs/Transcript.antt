@@ -8,7 +8,7 @@ use lib.ListN.{length, take, drop}
 use Rattle.chip.specs.declared.Chip.{Chip}
 use Rattle.chip.specs.Record.{view}
 use Rattle.script.specs.Script.{records, finalAnswer, resultsOf}
-use Rattle.script_text.specs.Text.{textOf}
+use Rattle.script_lines.specs.Text.{textOf}
 
 -- the text that a script gives from a chip record on: the lines of the records played, by the rules' own results, and the last line
 unfoldable pub textFor : Chip → List ℕ → List ℕ

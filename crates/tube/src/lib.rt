@@ -5,9 +5,9 @@ ghost use Rattle.script.specs.Script.{Play-done};
 ghost use Rattle.script_text.specs.Text.{Text-done};
 ghost use Rattle.strings.specs.Text.{nameOf};
 ghost use Rattle.flat.specs.Flat.{flatName};
-ghost use Rattle.flat_request.specs.Readers.{freshReader, Flat-done};
+ghost use Rattle.flat_reader.specs.Readers.{freshReader, Flat-done};
 ghost use Rattle.flat_request.specs.Feeds.{Flat-feed-done};
-ghost use Rattle.flat_request.specs.Calls.{callAt, Flat-request-done};
+ghost use Rattle.flat_request_writer.specs.Calls.{callAt, Flat-request-done};
 ghost use Rattle.flat_link.specs.Kinds.{kindAt, Flat-kind-done};
 ghost use Rattle.flat_link.specs.Links.{freshLink, Flat-step-done, Flat-begin-done};
 ghost use Rattle.flat_link.specs.Runs.{Flat-run-done};
@@ -21,9 +21,9 @@ use flat_link::FlatKind;
 use flat_link::FlatLink;
 use flat_link::FlatRan;
 use flat_link::FlatTold;
+use flat_reader::FlatRead;
+use flat_reader::FlatReader;
 use flat_request::FlatFed;
-use flat_request::FlatRead;
-use flat_request::FlatReader;
 use script::Played;
 
 // Plays a script: see `script::play`.
@@ -66,7 +66,7 @@ pub extern "C" fn tube_feed(reader: FlatReader, raw: &[u8], body: &mut [u8; 273]
     flat_request::feed(reader, raw, body)
 }
 
-// Writes a request: see `flat_request::write_request`.
+// Writes a request: see `flat_request_writer::write_request`.
 #[no_mangle]
 pub extern "C" fn tube_write_request(
     carrier: u8,
@@ -82,7 +82,7 @@ pub extern "C" fn tube_write_request(
 ) -> FlatWritten
     ensures { λ r. ⌜ Flat-request-done carrier style call (callAt call x y a «out_length») (now (block .entry)) (now (text .entry)) (now (out .entry)) r (now (out .exit)) ⌝ }
 {
-    flat_request::write_request(carrier, style, call, x, y, a, out_length, block, text, out)
+    flat_request_writer::write_request(carrier, style, call, x, y, a, out_length, block, text, out)
 }
 
 // The name in a body of OSFILE: see `strings::file_name`.

@@ -14,30 +14,25 @@ unflattened-requires c κs = search needs
 feed-requires : tie.Need-feed-requires
 feed-requires c κs = search needs
 
-flattened-requires : tie.Need-flattened-requires
-flattened-requires c κs = search needs
+flat-answer-requires : tie.Need-flat-answer-requires
+flat-answer-requires c κs = search needs
+
+returns : tie.Need-returns
+returns c =
+    let s = c .before .before .before in
+    read-slice (sym (s .before .before .has-tags .ensures) ∙ s .before .if1 .taken) (s .unflattened .ensures) (c .flat-answer .ensures) (c .before .feed .ensures)
 
 flat-read-requires : tie.Need-flat-read-requires
 flat-read-requires c κs = search needs
 
-returns : tie.Need-returns
-returns c =
-    let q = c .before .before .before in
-    let s = q .before .before in
-    read-slice (sym (s .before .before .has-tags .ensures) ∙ s .before .if1 .taken) (s .unflattened .ensures) (c .before .flattened .ensures) (c .flat-read .ensures)
-    (q .feed .ensures)
+returns-2 : tie.Need-returns-2
+returns-2 c = nothing-fed (c .before .if2 .taken) (c .flat-read .ensures)
 
 flat-read-requires-2 : tie.Need-flat-read-requires-2
 flat-read-requires-2 c κs = search needs
 
-returns-2 : tie.Need-returns-2
-returns-2 c = nothing-fed (c .before .if2 .taken) (c .flat-read2 .ensures)
-
-flat-read-requires-3 : tie.Need-flat-read-requires-3
-flat-read-requires-3 c κs = search needs
-
 returns-3 : tie.Need-returns-3
-returns-3 c = slice-out-of-range (sym (c .before .before .before .has-tags .ensures) ∙ c .before .before .if1 .left) (c .before .if2 .left) (c .flat-read3 .ensures)
+returns-3 c = slice-out-of-range (sym (c .before .before .before .has-tags .ensures) ∙ c .before .before .if1 .left) (c .before .if2 .left) (c .flat-read2 .ensures)
 
 pub feed-spec : {M : Type 1} → statement M
 feed-spec =
@@ -46,10 +41,9 @@ feed-spec =
     has-tags-requires
     unflattened-requires
     feed-requires
-    flattened-requires
-    flat-read-requires
+    flat-answer-requires
     returns
-    flat-read-requires-2
+    flat-read-requires
     returns-2
-    flat-read-requires-3
+    flat-read-requires-2
     returns-3)

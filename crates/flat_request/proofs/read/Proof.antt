@@ -17,24 +17,19 @@ slice-aggregate-feed c = search needs
 feed-requires : tie.Need-feed-requires
 feed-requires c κs = search needs
 
-flattened-requires : tie.Need-flattened-requires
-flattened-requires c κs = search needs
+flat-answer-requires : tie.Need-flat-answer-requires
+flat-answer-requires c κs = search needs
+
+returns : tie.Need-returns
+returns c =
+    let s = c .before .before .before .before in
+    read-byte (sym (s .before .before .has-tags .ensures) ∙ s .before .if1 .taken) (s .unflattened .ensures) (c .flat-answer .ensures) (c .before .feed .ensures)
 
 flat-read-requires : tie.Need-flat-read-requires
 flat-read-requires c κs = search needs
 
-returns : tie.Need-returns
-returns c =
-    let q = c .before .before .before in
-    let s = q .before .before .before in
-    read-byte (sym (s .before .before .has-tags .ensures) ∙ s .before .if1 .taken) (s .unflattened .ensures) (c .before .flattened .ensures) (c .flat-read .ensures)
-    (q .feed .ensures)
-
-flat-read-requires-2 : tie.Need-flat-read-requires-2
-flat-read-requires-2 c κs = search needs
-
 returns-2 : tie.Need-returns-2
-returns-2 c = out-of-range (sym (c .before .before .has-tags .ensures) ∙ c .before .if1 .left) (c .flat-read2 .ensures)
+returns-2 c = out-of-range (sym (c .before .before .has-tags .ensures) ∙ c .before .if1 .left) (c .flat-read .ensures)
 
 pub read-spec : {M : Type 1} → statement M
 read-spec =
@@ -44,8 +39,7 @@ read-spec =
     unflattened-requires
     slice-aggregate-feed
     feed-requires
-    flattened-requires
-    flat-read-requires
+    flat-answer-requires
     returns
-    flat-read-requires-2
+    flat-read-requires
     returns-2)

@@ -4,7 +4,7 @@ use native.Mathlib.Omega.{arith}
 use mathlib.Core.Path.{sym, ap, subst, _∙_}
 use Prim.Native.Nat.{_+_, _-_, _<_}
 use Rattle.serial_rules.specs.Reply.{Shape, longest}
-use Rattle.kind.specs.Ahead.{aheadOf}
+use Rattle.shapes.specs.Ahead.{aheadOf}
 use Rattle.link_loop.proofs.Plains.{waits-below, passes-plain}
 use borrow.Author.Needs.{needs}
 use Rattle.link_loop.proofs.pass_reply.Statement.{statement}

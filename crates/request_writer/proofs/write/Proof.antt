@@ -1,7 +1,7 @@
 -- The checks come in the order of their answers and before the first byte is written; after them only the room is left to test.
 use borrow.Author.Needs.{needs}
 use denote.Ref.{now}
-use Rattle.fields.specs.Carriers.{carrierOf}
+use Rattle.room.specs.Carriers.{carrierOf}
 use Rattle.request_writer.proofs.Answers.{too-long, bad-field, writable, no-room, done}
 use Rattle.request_writer.proofs.write.Statement.{statement}
 use Rattle.request_writer.proofs.write.Tie as tie

@@ -2,7 +2,7 @@
 use native.Mathlib.Omega.{arith}
 use borrow.Author.Needs.{needs}
 use lib.ListN.{length-take}
-use Rattle.request_writer.proofs.Rows.{style-fits, start-fits, heading-same}
+use Rattle.calls.proofs.Rows.{style-fits, start-fits, heading-same}
 use Rattle.request_writer.proofs.write_row.Statement.{statement}
 use Rattle.request_writer.proofs.write_row.Tie as tie
 

@@ -6,9 +6,9 @@ use native.Mathlib.Omega.{arith}
 use lib.ListN.{length, length-append}
 use mathlib.Core.Path.{_≡_, ap}
 use Prim.Native.Nat.{ℕ, _<_}
-use Rattle.script_text.specs.Text.{digitsOf}
+use Rattle.script_lines.specs.Text.{digitsOf}
 use Rattle.script_text.proofs.Writers.{wrote-then, wrote-nothing}
-use Rattle.script_text.proofs.Decimal.{digits-few, digits-more}
+use Rattle.script_lines.proofs.Decimal.{digits-few, digits-more}
 use Rattle.script_text.proofs.put_digits.Reads as put-digits
 use Rattle.script_text.proofs.put_digits.Kinds as put-digits-kinds
 use Rattle.script_text.proofs.+put_digits.Lts-put_digits as lts

@@ -2,7 +2,7 @@
 use borrow.Author.Needs.{needs}
 use native.Mathlib.Omega.{arith}
 use Rattle.script_text.proofs.Writers.{wrote-then}
-use Rattle.script_text.proofs.Lines.{end-fields, end-length, field-length}
+use Rattle.script_lines.proofs.Lines.{end-fields, end-length, field-length}
 use Rattle.script_text.proofs.put_end.Statement.{statement}
 use Rattle.script_text.proofs.put_end.Tie as tie
 

@@ -1,9 +1,9 @@
 -- The digits and the byte behind them.
 use borrow.Author.Needs.{needs}
 use native.Mathlib.Omega.{arith}
-use Rattle.script_text.specs.Write.{fieldOf}
+use Rattle.script_lines.specs.Fields.{fieldOf}
 use Rattle.script_text.proofs.Writers.{wrote-then}
-use Rattle.script_text.proofs.Lines.{field-length}
+use Rattle.script_lines.proofs.Lines.{field-length}
 use Rattle.script_text.proofs.put_field.Statement.{statement}
 use Rattle.script_text.proofs.put_field.Tie as tie
 

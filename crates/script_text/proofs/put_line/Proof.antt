@@ -2,7 +2,7 @@
 use borrow.Author.Needs.{needs}
 use native.Mathlib.Omega.{arith}
 use Rattle.script_text.proofs.Writers.{wrote-then}
-use Rattle.script_text.proofs.Lines.{line-fields, line-length, field-length}
+use Rattle.script_lines.proofs.Lines.{line-fields, line-length, field-length}
 use Rattle.script_text.proofs.put_line.Statement.{statement}
 use Rattle.script_text.proofs.put_line.Tie as tie
 

@@ -4,9 +4,9 @@ use native.Mathlib.Omega.{arith}
 use mathlib.Core.Path.{_≡_}
 use Prim.Native.Nat.{_≤_, _-_}
 use Rattle.script_text.specs.Write.{Wrote}
-use Rattle.script_text.specs.Text.{linesOf}
+use Rattle.script_lines.specs.Text.{linesOf}
 use Rattle.script_text.proofs.Writers.{wrote-then, wrote-nothing}
-use Rattle.script_text.proofs.Lines.{nth, lines-snoc, lines-room}
+use Rattle.script_lines.proofs.Lines.{nth, lines-snoc, lines-room}
 use Rattle.script_text.proofs.put_lines.Statement.{statement}
 use Rattle.script_text.proofs.put_lines.Tie as tie
 

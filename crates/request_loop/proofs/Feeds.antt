@@ -1,0 +1,125 @@
+-- Feeding a slice: a chain of steps grows by one at its end; what `feed` promises on an answer and where the slice ends; a slice of one byte is a step.
+use Prim.Native.Nat.{ℕ, _+_, _-_, _≤_, _<_}
+use mathlib.Core.Path.{_≡_, refl, sym, ap, _∙_}
+use mathlib.Core.List.{List, [], _∷_, _++_, append-nil}
+use native.Mathlib.Numerals.{add-one}
+use native.Mathlib.Omega.{arith}
+use lib.ListN.{length, take, drop, replicate, getD, length-take, length-drop, length-append, length-replicate, replicate-append-replicate}
+use lib.Seq.{take-suc, take-all, take-add}
+use types.Run.{OneOf, miss}
+use denote.Enum.Declared.{tagOf}
+use Rattle.serial_rules.specs.Reader as rules
+use Rattle.request_reader.proofs.Answer as answers
+use Rattle.request_reader.specs.declared.Reader.{Reader}
+use Rattle.request_reader.specs.declared.Answer.{Answer}
+use Rattle.request_reader.specs.declared.Answer.the-variants.{More, Character, Request, Refused}
+use Rattle.request_reader.specs.declared.Stepped.{Stepped}
+use Rattle.request_loop.specs.declared.Fed.{Fed}
+use Rattle.request_reader.specs.View.{answerOf, Step-done}
+use Rattle.request_reader.specs.Read.{Read, stop, took}
+use Rattle.request_loop.specs.Feed.{lastOf, told, Feed-done}
+use Rattle.request_loop.specs.Pass.{passedFrom, Pass-done}
+
+-- one step at the end of a chain
+one-more : {r q : Reader} {lent xs left end : List ℕ} {gave : List rules.Answer} {x : ℕ} {o : Stepped} → Read r lent xs gave q left → Step-done q left x o end
+    → Read r lent (xs ++ x ∷ []) (gave ++ answerOf (o .answer) end ∷ []) (o .reader) end
+one-more stop d = took d stop
+one-more (took e t) d = took e (one-more t d)
+
+-- the answers other than need-more
+abbrev pub others : List ℕ
+others = 1 ∷ 2 ∷ 3 ∷ []
+
+other-last : (a : Answer) (left : List ℕ) → OneOf others (tagOf answers.the-type a) → lastOf a left ≡ answerOf a left ∷ []
+other-last More left h = absurd (miss others 0 tt h)
+other-last (Character b) left h = refl
+other-last (Request style code n) left h = refl
+other-last (Refused n) left h = refl
+
+-- a chain behind a chain, over the bytes behind the first j
+read-join : {r q p : Reader} {lent left end xs ys : List ℕ} {gave more : List rules.Answer} → Read r lent xs gave q left → Read q left ys more p end
+    → Read r lent (xs ++ ys) (gave ++ more) p end
+read-join stop t = t
+read-join (took e s) t = took e (read-join s t)
+
+pub passes : {r q at : Reader} {lent left end : List ℕ} {n : ℕ} (raw : List ℕ) (j : ℕ) → Read r lent (take j raw) (replicate j rules.needMore) q left
+    → Pass-done q left (take (length raw - j) (drop j raw)) n end → at ≡ passedFrom q n → Read r lent (take (j + n) raw) (replicate (j + n) rules.needMore) at end
+passes {n = n} raw j s d e =
+    let tail : take (length raw - j) (drop j raw) ≡ drop j raw = take-all (length raw - j) (drop j raw) (simp length-drop (omega arith)) in
+    rw (e, take-add j n raw, ← tail, ← replicate-append-replicate j n rules.needMore) (read-join s (d .steps))
+
+pub pass-within : {q : Reader} {left end : List ℕ} {n : ℕ} (raw : List ℕ) (j : ℕ) → j ≤ length raw → Pass-done q left (take (length raw - j) (drop j raw)) n end → j + n ≤ length raw
+pass-within raw j h d = let w = simp (length-take, length-drop) at (d .within) in omega arith
+
+-- after `i` bytes that needed more
+module _ {r q : Reader} {lent left : List ℕ} (raw : List ℕ) (i : ℕ) (so-far : Read r lent (take i raw) (replicate i rules.needMore) q left) where
+  stepped : {o : Stepped} {end : List ℕ} → i < length raw → Step-done q left (getD raw i 0) o end
+      → Read r lent (take (i + 1) raw) (replicate i rules.needMore ++ answerOf (o .answer) end ∷ []) (o .reader) end
+  stepped h d = rw (add-one, take-suc raw i 0 h) (one-more so-far d)
+
+  pub again : {o : Stepped} {end : List ℕ} → i < length raw → Step-done q left (getD raw i 0) o end → o .answer ≡ More
+      → Read r lent (take (i + 1) raw) (replicate (i + 1) rules.needMore) (o .reader) end
+  again h d e = rw (← replicate-append-replicate i 1 rules.needMore) (rw e at (stepped h d))
+
+  pub answered : {o : Stepped} {end : List ℕ} → i < length raw → Step-done q left (getD raw i 0) o end → OneOf others (tagOf answers.the-type (o .answer))
+      → Feed-done r lent raw (record { answer = o .answer; used = i + 1; reader = o .reader }) end
+  answered {o} {end} h d other =
+      record {
+        waits = i;
+        used = simp (other-last (o .answer) end other, length-append, length-replicate);
+        within = omega arith;
+        steps = rw (other-last (o .answer) end other) (stepped h d);
+        ended = λ e. absurd (miss others 0 tt (rw e at other));
+      }
+
+  pub needs-more : length raw ≤ i → i ≤ length raw → Feed-done r lent raw (record { answer = More; used = i; reader = q }) left
+  needs-more h k =
+      record {
+        waits = i;
+        used = simp (append-nil, length-replicate);
+        within = k;
+        steps = rw append-nil so-far;
+        ended = λ e. omega arith;
+      }
+
+-- a slice of one byte is a step: it is used, and its answer is the one told
+one-waited : (waits used : ℕ) (a : Answer) (left : List ℕ) → lastOf a left ≡ answerOf a left ∷ [] → used ≡ length (told waits a left) → used ≤ 1
+    → (used ≡ 1) × (told waits a left ≡ answerOf a left ∷ [])
+one-waited waits used a left e u h =
+    let n : used ≡ waits + 1 = u ∙ simp (e, length-append, length-replicate) in
+    let w : waits ≡ 0 = omega arith in
+    (omega arith, rw (e, w))
+
+one-told : (waits used : ℕ) (a : Answer) (left : List ℕ) → used ≡ length (told waits a left) → used ≤ 1 → (a ≡ More → used ≡ 1)
+    → (used ≡ 1) × (told waits a left ≡ answerOf a left ∷ [])
+one-told waits used More left u h e =
+    let n : used ≡ waits = u ∙ simp (append-nil, length-replicate) in
+    let w : waits ≡ 1 = omega (arith, e refl) in
+    (e refl, rw w)
+one-told waits used (Character b) left u h e = one-waited waits used (Character b) left refl u h
+one-told waits used (Request style code n) left u h e = one-waited waits used (Request style code n) left refl u h
+one-told waits used (Refused n) left u h e = one-waited waits used (Refused n) left refl u h
+
+refused-back : (a : Answer) (left : List ℕ) (n : ℕ) → answerOf a left ≡ rules.refusal n → a ≡ Refused n
+refused-back More left n e = let z : _≡_ {A = ℕ} 0 1 = cc in absurd (omega arith)
+refused-back (Character b) left n e = let z : _≡_ {A = ℕ} 0 1 = cc in absurd (omega arith)
+refused-back (Request style code k) left n e = let z : _≡_ {A = ℕ} 0 1 = cc in absurd (omega arith)
+refused-back (Refused k) left n e = cc
+
+one-read : {r q : Reader} {lent end : List ℕ} {x : ℕ} {gave : List rules.Answer} (a : Answer) → Read r lent (x ∷ []) gave q end → gave ≡ answerOf a end ∷ []
+    → Step-done r lent x (record { answer = a; reader = q }) end
+one-read {end = end} a (took {o = o} d stop) e =
+    let same : answerOf a end ≡ answerOf (o .answer) end = cc in
+    record {
+      answer = same ∙ d .answer;
+      next = d .next;
+      bytes = d .bytes;
+      carrier = d .carrier;
+      kept = d .kept;
+      stops = λ n h q. d .stops n h (refused-back (o .answer) end n (sym same ∙ ap (λ (b : Answer). answerOf b end) q));
+    }
+
+pub one-fed : {r : Reader} {lent left : List ℕ} {x : ℕ} {o : Fed} → Feed-done r lent (x ∷ []) o left → Step-done r lent x (record { answer = o .answer; reader = o .reader }) left
+one-fed {left = left} {o = o} d =
+    let p = one-told (d .waits) (o .used) (o .answer) left (d .used) (d .within) (d .ended) in
+    one-read (o .answer) (rw (p .0) at (d .steps)) (p .1)

@@ -1,0 +1,156 @@
+-- Plain raw bytes in the middle of a field: each is a step that needs more, so that all of them are a chain of steps.
+use Prim.Native.Nat.{ℕ, suc, _+_, _≤_, _<_}
+use native.Mathlib.Nat.{add-zero}
+use native.Mathlib.Numerals.{add-one}
+use native.Mathlib.Omega.{arith}
+use mathlib.Core.Path.{_≡_, refl, sym, ap, subst, _∙_}
+use mathlib.Core.Bool.{Bool, true, false, cond}
+use mathlib.Core.List.{List, [], _∷_, _++_, append-assoc, append-nil}
+use lib.Dec.{eqb}
+use lib.ListN.{length, getD, take, drop, set, replicate, length-append, length-drop, length-set}
+use lib.Seq.{length-take-le, getD-take, sets}
+use borrow.Author.Tests.{lt-ltb}
+use Rattle.serial_rules.specs.Escape.{Piece, pending, dataByte, mark}
+use Rattle.serial_rules.specs.Marks.{styleOf, codeIn}
+use Rattle.serial_rules.specs.Call.{Carrier, serial, parallel}
+use Rattle.serial_rules.specs.Body.{Turn, more, done, refused, bodyTurn, longestBody}
+use Rattle.serial_rules.specs.Reader as rules
+use Rattle.turns.specs.Plain.{plain, Plains, none, one, Plain-done}
+use Rattle.turns.proofs.Plain.{no-escape, done-plains, done-most, part-sets}
+use Rattle.request_reader.specs.declared.Phase.{Phase}
+use Rattle.request_reader.specs.declared.Phase.the-variants.{Inside}
+use Rattle.request_reader.specs.declared.Reader.{Reader}
+use Rattle.request_reader.specs.declared.Answer.the-variants.{More}
+use Rattle.request_reader.specs.declared.Stepped.{Stepped}
+use Rattle.request_reader.specs.View.{carrierOf, within, viewOf, answerOf, Step-done}
+use Rattle.middles.specs.Ahead.{aheadIn}
+use Rattle.middles.proofs.Middle.{Ahead-done, ahead-holds}
+use Rattle.request_reader.specs.Read.{Read, stop, took}
+use Rattle.request_loop.specs.Pass.{passedFrom, Pass-done}
+use Rattle.request_reader.proofs.Limits.{longest-fits}
+use Rattle.request_reader.proofs.Steps.{within-style, within-count, taken, inside-data, data-goes, at-inside}
+
+-- a plain byte is data in itself, on either carrier
+data-in-itself : (c : Carrier) (b : ℕ) → plain b ≡ true → rules.pieceInside c false b ≡ dataByte b
+data-in-itself serial b h = rw (no-escape b h)
+data-in-itself parallel b h = refl
+
+plains-more : {l : List ℕ} (b : ℕ) → Plains l → plain b ≡ true → Plains (l ++ (b ∷ []))
+plains-more b none p = one p none
+plains-more b (one q ps) p = one q (plains-more b ps p)
+
+-- a reader in the middle of a body
+abbrev mid : Reader → ℕ → Reader
+mid r g = record { carrier = r .carrier; phase = Inside; escape = false; style = r .style; code = r .code; count = g }
+
+module _ (r : Reader) (ok : within r ≡ true) where
+  mid-within : (g : ℕ) → g < longestBody (r .code) → within (mid r g) ≡ true
+  unfolding within
+  mid-within g h = simp (within-style r ok, lt-ltb g (longestBody (r .code)) h)
+
+  mid-step : (g b : ℕ) (lent : List ℕ) → g + 1 < longestBody (r .code) → g < length lent → bodyTurn (r .code) (take g lent) b ≡ more → plain b ≡ true
+      → Step-done (mid r g) lent b (record { answer = More; reader = mid r (suc g) }) (set lent g b)
+  mid-step g b lent fits room turn p =
+      let w = mid-within g (omega arith) in
+      let same : mid r (g + 1) ≡ mid r (suc g) = rw (add-one g) in
+      at-inside (mid r g) lent b (rw w)
+      (inside-data (mid r g) lent (data-in-itself (carrierOf (r .carrier)) b p) (data-goes (mid r g) lent b w room fits turn (rw same)))
+
+  -- behind the bytes s of the body the plain bytes ys have come, and xs come
+  mid-steps : (s ys xs : List ℕ) (n g : ℕ) (lent : List ℕ) → Ahead-done (r .code) s n → length s < longestBody (r .code) → take g lent ≡ s ++ ys → g ≡ length s + length ys
+      → Plains ys → Plains xs → length ys + length xs ≤ n → g + length xs ≤ length lent
+      → Read (mid r g) lent xs (replicate (length xs) rules.needMore) (mid r (g + length xs)) (sets lent g xs)
+  mid-steps s ys [] n g lent a below now at ps none h room = rw (add-zero g) stop
+  mid-steps s ys (x ∷ xs) n g lent a below now at ps (one p qs) h room =
+      let fits = a .fits below in
+      let same : suc g + length xs ≡ g + suc (length xs) = omega arith in
+      let turn : bodyTurn (r .code) (take g lent) x ≡ more = rw now (a .needs ys x ps p (omega arith)) in
+      let k = length-append ys (x ∷ []) in
+      let next : take (suc g) (set lent g x) ≡ s ++ (ys ++ (x ∷ [])) = rw (← add-one g, taken lent g x (omega arith), now, append-assoc) in
+      took (mid-step g x lent (omega arith) (omega arith) turn p)
+      (rw same at (mid-steps s (ys ++ (x ∷ [])) xs n (suc g) (set lent g x) a below next (omega arith) (plains-more x ps p) qs (omega arith) (simp length-set (omega arith))))
+
+-- nothing passed over
+pub passes-none : (r : Reader) (lent raw : List ℕ) → Pass-done r lent raw 0 lent
+passes-none r lent raw =
+    let same : passedFrom r 0 ≡ r = rw (add-zero (r .count)) in
+    record { within = omega arith; below = λ h. absurd (omega arith); steps = rw same stop }
+
+-- a reader inside a request, within its limits and with no escape seen, is one in the middle of a body
+module _ (r : Reader) (inside : r .phase ≡ Inside) (ok : within r ≡ true) (shut : r .escape ≡ false) where
+  pub passes-plain : {raw left : List ℕ} {n : ℕ} (lent : List ℕ) (most size : ℕ) → Ahead-done (r .code) (take (r .count) lent) most → size ≡ most → length lent ≡ 273
+      → Plain-done raw (take size (drop (r .count) lent)) n left → Pass-done r lent raw n (take (r .count) lent ++ (left ++ drop size (drop (r .count) lent)))
+  passes-plain {raw} {left} {n} lent most size a is whole d =
+      let top = longest-fits (r .code) in
+      let count = within-count r ok in
+      let s : length (take (r .count) lent) ≡ r .count = length-take-le (r .count) lent (omega arith) in
+      let fits = a .fits (omega arith) in
+      let part : length (take size (drop (r .count) lent)) ≡ size = length-take-le size (drop (r .count) lent) (simp length-drop (omega arith)) in
+      let got = done-most d in
+      let m : length (take n raw) ≡ n = length-take-le n raw (got .1) in
+      let here : r ≡ mid r (r .count) = rw (inside, shut) in
+      let there : passedFrom r n ≡ mid r (r .count + n) = rw (inside, shut) in
+      record {
+        within = got .1;
+        below = λ _. omega arith;
+        steps =
+            subst (λ (q : Reader). Read q lent (take n raw) (replicate n rules.needMore) (passedFrom r n) (take (r .count) lent ++ (left ++ drop size (drop (r .count) lent)))) (sym here)
+            (rw (there, part-sets lent (r .count) size (omega arith) d)
+            (rw m at (mid-steps r ok (take (r .count) lent) [] (take n raw) most (r .count) lent a (omega arith) (sym (append-nil (take (r .count) lent))) (omega arith) none (done-plains d) (omega arith) (omega arith))));
+      }
+
+-- what the body's bytes ahead are, of the bytes lent
+pub ahead-of : (r : Reader) (lent : List ℕ) {n : ℕ} → within r ≡ true → length lent ≡ 273 → getD lent 1 0 < 256 → n ≡ aheadIn (r .code) (take (r .count) lent)
+    → Ahead-done (r .code) (take (r .count) lent) n
+ahead-of r lent ok whole byte e =
+    let top = longest-fits (r .code) in
+    let count = within-count r ok in
+    let s : length (take (r .count) lent) ≡ r .count = length-take-le (r .count) lent (omega arith) in
+    rw e (ahead-holds (r .code) (take (r .count) lent) (λ two. omega (arith, getD-take (r .count) lent 1 0 (omega arith))))
+
+pub end-fits : (r : Reader) (lent : List ℕ) (most : ℕ) → within r ≡ true → length lent ≡ 273 → Ahead-done (r .code) (take (r .count) lent) most → r .count + most ≤ 273
+end-fits r lent most ok whole a =
+    let top = longest-fits (r .code) in
+    let count = within-count r ok in
+    let s : length (take (r .count) lent) ≡ r .count = length-take-le (r .count) lent (omega arith) in
+    omega (arith, a .fits (omega arith))
+
+-- A step that needs more and leaves the reader inside a request leaves it within its limits: only a refusal stops it.
+turned-stops : (style code : ℕ) (s : List ℕ) (b : ℕ) (t : Turn) → rules.turned style code s b t .next ≡ rules.stopped → rules.turned style code s b t .answer ≡ rules.needMore → ⊥
+turned-stops style code s b more e f = let z : _≡_ {A = ℕ} 0 1 = cc in omega arith
+turned-stops style code s b done e f = let z : _≡_ {A = ℕ} 0 1 = cc in omega arith
+turned-stops style code s b (refused n) e f = let z : _≡_ {A = ℕ} 0 1 = cc in omega arith
+
+inside-stops : (style code : ℕ) (s : List ℕ) (p : Piece) → rules.insideStep style code s p .next ≡ rules.stopped → rules.insideStep style code s p .answer ≡ rules.needMore → ⊥
+inside-stops style code s pending e f = let z : _≡_ {A = ℕ} 0 1 = cc in omega arith
+inside-stops style code s (dataByte b) e f = turned-stops style code s b (bodyTurn code s b) e f
+inside-stops style code s (mark m) e f = let z : _≡_ {A = ℕ} 0 1 = cc in omega arith
+
+begun-stops : (style code : ℕ) (t : Bool) → cond t (rules.gives (rules.request style 0 []) (rules.outside false)) (rules.gives rules.needMore (rules.inside false style code [])) .next ≡ rules.stopped → ⊥
+begun-stops style code true e = let z : _≡_ {A = ℕ} 0 1 = cc in omega arith
+begun-stops style code false e = let z : _≡_ {A = ℕ} 0 1 = cc in omega arith
+
+mark-stops : (style code : ℕ) (t : Bool) → cond t (rules.begun style code) (rules.stops 4) .next ≡ rules.stopped → cond t (rules.begun style code) (rules.stops 4) .answer ≡ rules.needMore → ⊥
+mark-stops style code true e f = begun-stops style code (eqb code 0) e
+mark-stops style code false e f = let z : _≡_ {A = ℕ} 0 1 = cc in omega arith
+
+outside-stops : (c : Carrier) (p : Piece) → rules.outsideStep c p .next ≡ rules.stopped → rules.outsideStep c p .answer ≡ rules.needMore → ⊥
+outside-stops c pending e f = let z : _≡_ {A = ℕ} 0 1 = cc in omega arith
+outside-stops c (dataByte b) e f = let z : _≡_ {A = ℕ} 0 1 = cc in omega arith
+outside-stops c (mark m) e f = mark-stops (styleOf m) (codeIn m) (rules.starts c m) e f
+
+step-stops : (c : Carrier) (r : rules.Reader) (x : ℕ) → rules.step c r x .next ≡ rules.stopped → rules.step c r x .answer ≡ rules.needMore → ⊥
+unfolding rules.step
+step-stops c rules.stopped x e f = let z : _≡_ {A = ℕ} 0 1 = cc in omega arith
+step-stops c (rules.outside s) x e f = outside-stops c (rules.pieceOutside c s x) e f
+step-stops c (rules.inside s style code l) x e f = inside-stops style code l (rules.pieceInside c s x) e f
+
+pub still-within : {r : Reader} {lent left : List ℕ} {x : ℕ} {o : Stepped} → Step-done r lent x o left → o .answer ≡ More → o .reader .phase ≡ Inside → within (o .reader) ≡ true
+unfolding within
+still-within {r} {lent} {left} {x} {o} d e inside = go (within (o .reader)) refl
+  where
+    go : (t : Bool) → within (o .reader) ≡ t → t ≡ true
+    go true w = refl
+    go false w =
+        let at : viewOf (o .reader) left ≡ rules.stopped = rw (inside, w) in
+        absurd (step-stops (carrierOf (r .carrier)) (viewOf r lent) x (sym (d .next) ∙ at) (sym (d .answer) ∙ rw e))

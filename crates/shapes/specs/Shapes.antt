@@ -1,0 +1,9 @@
+-- The program's shapes, as the rules speak of them.
+use Rattle.serial_rules.specs.Reply as rules
+use Rattle.shapes.specs.declared.Shape.{Shape}
+use Rattle.shapes.specs.declared.Shape.the-variants.{Fixed, Line, Text}
+
+abbrev pub shapeFor : Shape → rules.Shape
+shapeFor (Fixed n) = rules.fixed n
+shapeFor Line = rules.line
+shapeFor Text = rules.text
