@@ -1,11 +1,11 @@
 // Where the player of a script stops, and what it answers there.
 ghost use Prim.Native.Nat.{_+_, _*_, _≤_, _<_};
 ghost use mathlib.Core.Path.{_≡_};
-ghost use Rattle.script_end.specs.Ending.{ending};
+ghost use Rattle.script_end.specs.Ending.{playable, ending};
 
 // The smaller of the limit and the whole records in so many bytes.
 pub fn record_count(bytes: usize, limit: usize) -> usize
-    ensures { λ r. ⌜ (r ≤ limit) × (3 * r ≤ bytes) × (r < limit → bytes < 3 * r + 3) ⌝ }
+    ensures { λ r. ⌜ (r ≡ playable bytes limit) × (r ≤ limit) × (3 * r ≤ bytes) × (r < limit → bytes < 3 * r + 3) ⌝ }
 {
     let whole = bytes / 3;
     if limit < whole { limit } else { whole }

@@ -12,7 +12,7 @@ mul-if1 : tie.Need-mul-if1
 mul-if1 c = search needs
 
 returns : tie.Need-returns
-returns c = let a = c .before .before .before .before .args in let n = c .before .record-count .result in let e = c .before .record-count .ensures in too-short (a .chip) (a .script .now) (a .limit) n (a .results .now) (allowed (a .limit) n (a .script .now) (e .0) (e .1) (e .2)) (e .1) (c .if1 .taken)
+returns c = let a = c .before .before .before .before .args in let n = c .before .record-count .result in let e = c .before .record-count .ensures in too-short (a .chip) (a .script .now) (a .limit) n (a .results .now) (allowed (a .limit) n (a .script .now) (e .1) (e .2) (e .3)) (e .2) (c .if1 .taken)
 
 play-records-requires : tie.Need-play-records-requires
 play-records-requires c κs = search needs
@@ -33,7 +33,7 @@ same-length : tie.Need-same-length
 same-length c = search needs
 
 returns-2 : tie.Need-returns-2
-returns-2 c = let a = c .before .before .before .before .before .before .before .before .before .args in let n = c .before .before .before .before .before .before .record-count .result in let e = c .before .before .before .before .before .before .record-count .ensures in all-played (a .chip) (a .script .now) (a .limit) n (a .results .now) (allowed (a .limit) n (a .script .now) (e .0) (e .1) (e .2)) (e .1) (c .before .before .before .play-records .result) (c .final-answer .result) _ (omega arith) (c .final-answer .ensures) (c .before .before .before .play-records .ensures)
+returns-2 c = let a = c .before .before .before .before .before .before .before .before .before .args in let n = c .before .before .before .before .before .before .record-count .result in let e = c .before .before .before .before .before .before .record-count .ensures in all-played (a .chip) (a .script .now) (a .limit) n (a .results .now) (allowed (a .limit) n (a .script .now) (e .1) (e .2) (e .3)) (e .2) (c .before .before .before .play-records .result) (c .final-answer .result) _ (omega arith) (c .final-answer .ensures) (c .before .before .before .play-records .ensures)
 
 pub play-spec : {M : Type 1} → statement M
 play-spec =
