@@ -23,7 +23,7 @@ use Rattle.link_loop.specs.Run.{Run-done}
 use Rattle.flat_link.specs.declared.FlatLink.{FlatLink}
 use Rattle.flat_link.specs.declared.FlatRan.{FlatRan}
 use Rattle.flat_link.specs.declared.FlatBegun.{FlatBegun}
-use Rattle.flat_link.specs.Kinds.{kindAt, lastCall}
+use Rattle.flat_kind.specs.Kinds.{kindAt, lastCall}
 use Rattle.flat_link.specs.Links.{seenAt, stoppedAt, linkOf, tagsOk, flatView, flatStopped, flatOf, toldOf, flatTold, Flat-step-done, flatBegin, flatBegun, Flat-begin-done}
 use Rattle.flat_link.specs.Runs.{flatRan, flatUnknown, Flat-run-done}
 use Rattle.flat_link.proofs.Conversions.{two-more, flat-view, flat-back}

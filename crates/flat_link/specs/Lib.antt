@@ -1,4 +1,2 @@
-pub mod Kinds
 pub mod Links
 pub mod Runs
-pub mod Replies

@@ -20,7 +20,7 @@ use Rattle.flat.specs.Flat.{flagNumber}
 use Rattle.flat_link.specs.declared.FlatLink.{FlatLink}
 use Rattle.flat_link.specs.declared.FlatTold.{FlatTold}
 use Rattle.flat_link.specs.declared.FlatBegun.{FlatBegun}
-use Rattle.flat_link.specs.Kinds.{kindAt, lastCall, kindNumber, kindOut}
+use Rattle.flat_kind.specs.Kinds.{kindAt, lastCall, kindNumber, kindOut}
 
 -- 0 is idle, any other number one more than that of the call that waits
 abbrev pub waitAt : ℕ → ℕ → Wait

@@ -1,15 +1,9 @@
-// The link, the replies and the kinds of call as flat records: numbers for the enums and the bools, with total conversions, so that they can
-// cross to C. The calls are numbered in the order of `kind::CallKind`, from 0, as `tube_write_request` numbers them.
-ghost use Prim.Native.Nat.{_≤_};
+// The link as a flat record: numbers for its enums and bools, with total conversions, so that it can cross to C.
 ghost use mathlib.Core.Path.{_≡_};
 ghost use Rattle.link.specs.View.{begunOf};
-ghost use Rattle.flat_link.specs.Kinds.{kindAt, kindNumber, kindOut, Flat-kind-done};
 ghost use Rattle.flat_link.specs.Links.{waitAt, doingAt, linkOf, tagsOk, freshLink, waitNumber, waitOut, doingNumber, flagsNumber, flatOf, toldWith, flatTold, flatBegun, Flat-begin-done};
 ghost use Rattle.flat_link.specs.Runs.{flatRan, flatUnknown, ranWith, Flat-run-done};
-ghost use Rattle.flat_link.specs.Replies.{replyAt, replyKnown, flatGiven, givenWith, Flat-reply-done, Flat-read-done};
-use fields::Written;
-use flat::FlatWritten;
-use kind::CallKind;
+use flat_kind::FlatKind;
 use link::Action;
 use link::Answer;
 use link::Begun;
@@ -17,9 +11,6 @@ use link::Doing;
 use link::Link;
 use link::Wait;
 use link_loop::Ran;
-use reply::Given;
-use reply::Reply;
-use strings::Text;
 
 // A link. `got` bytes of the reply and `held` bytes of the open action came so far. `wait` is 0 where the link is idle, else one more than the
 // number of the call that waits, OSWORD with its `out_length`; `action` is 0 where none is open, 1 for an error, 2 for an event, 3 for an
@@ -65,33 +56,6 @@ pub struct FlatRan {
     pub noted: usize,
 }
 
-// A reply read: its number in the order of `reply::Reply`, from 0, its own numbers, and where its block and its string lie in the bytes. What
-// the reply lacks is 0.
-#[repr(C)]
-pub struct FlatGiven {
-    pub block_start: usize,
-    pub block_length: usize,
-    pub text_start: usize,
-    pub text_length: usize,
-    pub reply: u8,
-    pub carry: u8,
-    pub x: u8,
-    pub y: u8,
-    pub a: u8,
-}
-
-// The kind of a call: its number, and OSWORD's out length, else 0.
-#[repr(C)]
-pub struct FlatKind {
-    pub call: u8,
-    pub out_length: u8,
-}
-
-impl FlatKind {
-    // The highest number of a call.
-    const LAST: u8 = 12;
-}
-
 // A fresh link; it is also what resets a stopped one.
 pub fn fresh() -> FlatLink
     ensures { λ r. ⌜ r ≡ freshLink ⌝ }
@@ -112,7 +76,7 @@ pub fn begin(link: FlatLink, call: u8, out_length: u8) -> FlatBegun
 {
     if has_tags(link) {
         if call <= FlatKind::LAST {
-            let started = unflattened(link).begin(kind_at(call, out_length));
+            let started = unflattened(link).begin(flat_kind::kind_at(call, out_length));
             let answer = started.answer;
             let next = started.link;
             return flat_begun(flattened(link, next), answer);
@@ -280,7 +244,7 @@ fn wait_at(n: u8, out_length: u8) -> Wait
     if n == 0 {
         return Wait::Idle;
     }
-    Wait::Waiting(kind_at(n - 1, out_length))
+    Wait::Waiting(flat_kind::kind_at(n - 1, out_length))
 }
 
 fn doing_at(n: u8) -> Doing
@@ -319,7 +283,7 @@ fn wait_number(wait: Wait) -> u8
 {
     match wait {
         Wait::Idle => 0,
-        Wait::Waiting(kind) => kind_number(kind) + 1,
+        Wait::Waiting(kind) => flat_kind::kind_number(kind) + 1,
     }
 }
 
@@ -328,7 +292,7 @@ fn wait_out(given: u8, wait: Wait) -> u8
 {
     match wait {
         Wait::Idle => given,
-        Wait::Waiting(kind) => kind_out(given, kind),
+        Wait::Waiting(kind) => flat_kind::kind_out(given, kind),
     }
 }
 
@@ -350,193 +314,4 @@ fn flags_number(escape: bool, stopped: bool) -> u8
 {
     let seen = flat::flag_number(0, escape);
     if stopped { seen + 2 } else { seen }
-}
-
-// The kind of a finished request: see `kind::CallKind::of_request`.
-pub fn kind_of(code: u8, body: &[u8]) -> FlatKind
-    ensures { λ r. ⌜ Flat-kind-done code (now (body .entry)) r ⌝ }
-{
-    let kind = CallKind::of_request(code, body);
-    FlatKind {
-        call: kind_number(kind),
-        out_length: kind_out(0, kind),
-    }
-}
-
-// The kind of a number, with OSWORD's out length.
-fn kind_at(n: u8, out_length: u8) -> CallKind
-    ensures { λ r. ⌜ r ≡ kindAt n «out_length» ⌝ }
-{
-    match n {
-        0 => CallKind::Osrdch,
-        1 => CallKind::Oscli,
-        2 => CallKind::OsbyteLow,
-        3 => CallKind::OsbyteHigh,
-        4 => CallKind::Osword(out_length),
-        5 => CallKind::Osword0,
-        6 => CallKind::Osargs,
-        7 => CallKind::Osbget,
-        8 => CallKind::Osbput,
-        9 => CallKind::OsfindClose,
-        10 => CallKind::OsfindOpen,
-        11 => CallKind::Osfile,
-        _ => CallKind::Osgbpb,
-    }
-}
-
-// The number of a kind, and its out length, or the one given.
-fn kind_number(kind: CallKind) -> u8
-    ensures { λ r. ⌜ (r ≡ kindNumber kind) × (r ≤ 12) ⌝ }
-{
-    match kind {
-        CallKind::Osrdch => 0,
-        CallKind::Oscli => 1,
-        CallKind::OsbyteLow => 2,
-        CallKind::OsbyteHigh => 3,
-        CallKind::Osword(_) => 4,
-        CallKind::Osword0 => 5,
-        CallKind::Osargs => 6,
-        CallKind::Osbget => 7,
-        CallKind::Osbput => 8,
-        CallKind::OsfindClose => 9,
-        CallKind::OsfindOpen => 10,
-        CallKind::Osfile => 11,
-        CallKind::Osgbpb => 12,
-    }
-}
-
-fn kind_out(given: u8, kind: CallKind) -> u8
-    ensures { λ r. ⌜ r ≡ kindOut given kind ⌝ }
-{
-    match kind {
-        CallKind::Osrdch => given,
-        CallKind::Oscli => given,
-        CallKind::OsbyteLow => given,
-        CallKind::OsbyteHigh => given,
-        CallKind::Osword(n) => n,
-        CallKind::Osword0 => given,
-        CallKind::Osargs => given,
-        CallKind::Osbget => given,
-        CallKind::Osbput => given,
-        CallKind::OsfindClose => given,
-        CallKind::OsfindOpen => given,
-        CallKind::Osfile => given,
-        CallKind::Osgbpb => given,
-    }
-}
-
-// Writes a reply: see `reply_writer::write_reply`. Another call or reply is a field that breaks its rule. A number that the reply does not have is not
-// read; a carry is set where its number is not 0.
-pub fn write_reply(
-    call: u8,
-    out_length: u8,
-    reply: u8,
-    carry: u8,
-    x: u8,
-    y: u8,
-    a: u8,
-    block: &[u8],
-    text: &[u8],
-    out: &mut [u8],
-) -> FlatWritten
-    ensures { λ r. ⌜ Flat-reply-done call (kindAt call «out_length») reply (replyAt reply carry x y a) (now (block .entry)) (now (text .entry)) (now (out .entry)) r (now (out .exit)) ⌝ }
-{
-    if reply_known(call, reply) {
-        let given = reply_at(reply, carry, x, y, a);
-        let kind = kind_at(call, out_length);
-        return flat::flat_written(reply_writer::write_reply(kind, given, block, text, out));
-    }
-    if Text::LIMIT < text.len() {
-        return flat::flat_written(Written::TooLong);
-    }
-    flat::flat_written(Written::BadField)
-}
-
-// Whether the numbers of the call and of the reply are in range.
-fn reply_known(call: u8, reply: u8) -> bool
-    ensures { λ r. ⌜ r ≡ replyKnown call reply ⌝ }
-{
-    if call <= FlatKind::LAST {
-        return reply <= 9;
-    }
-    false
-}
-
-// The reply of a number, with the numbers that it has.
-fn reply_at(n: u8, carry: u8, x: u8, y: u8, a: u8) -> Reply
-    ensures { λ r. ⌜ r ≡ replyAt n carry x y a ⌝ }
-{
-    let set = carry != 0;
-    match n {
-        0 => Reply::CarryA { carry: set, a: a },
-        1 => Reply::Ack(set),
-        2 => Reply::Byte(a),
-        3 => Reply::CarryYX {
-            carry: set,
-            y: y,
-            x: x,
-        },
-        4 => Reply::Block,
-        5 => Reply::EscapedLine,
-        6 => Reply::ReadLine,
-        7 => Reply::ABlock(a),
-        8 => Reply::Plain,
-        _ => Reply::BlockCarryA { carry: set, a: a },
-    }
-}
-
-// The fields of a finished reply: see `reply::read_reply`. The reply to a call that does not exist has the number 10 and nothing else.
-pub fn read_reply(call: u8, out_length: u8, bytes: &[u8]) -> FlatGiven
-    ensures { λ r. ⌜ Flat-read-done call (kindAt call «out_length») (now (bytes .entry)) r ⌝ }
-{
-    if call <= FlatKind::LAST {
-        let kind = kind_at(call, out_length);
-        return flat_given(reply::read_reply(kind, bytes));
-    }
-    FlatGiven {
-        block_start: 0,
-        block_length: 0,
-        text_start: 0,
-        text_length: 0,
-        reply: 10,
-        carry: 0,
-        x: 0,
-        y: 0,
-        a: 0,
-    }
-}
-
-// The flat record of a reply read.
-fn flat_given(given: Given) -> FlatGiven
-    ensures { λ r. ⌜ r ≡ flatGiven given ⌝ }
-{
-    let reply = given.reply;
-    match reply {
-        Reply::CarryA { carry, a } => numbered(given, 0, carry, 0, 0, a),
-        Reply::Ack(set) => numbered(given, 1, set, 0, 0, 0),
-        Reply::Byte(b) => numbered(given, 2, false, 0, 0, b),
-        Reply::CarryYX { carry, y, x } => numbered(given, 3, carry, x, y, 0),
-        Reply::Block => numbered(given, 4, false, 0, 0, 0),
-        Reply::EscapedLine => numbered(given, 5, false, 0, 0, 0),
-        Reply::ReadLine => numbered(given, 6, false, 0, 0, 0),
-        Reply::ABlock(a) => numbered(given, 7, false, 0, 0, a),
-        Reply::Plain => numbered(given, 8, false, 0, 0, 0),
-        Reply::BlockCarryA { carry, a } => numbered(given, 9, carry, 0, 0, a),
-    }
-}
-
-fn numbered(given: Given, reply: u8, carry: bool, x: u8, y: u8, a: u8) -> FlatGiven
-    ensures { λ r. ⌜ r ≡ givenWith given reply carry x y a ⌝ }
-{
-    FlatGiven {
-        block_start: given.block_start,
-        block_length: given.block_length,
-        text_start: given.text_start,
-        text_length: given.text_length,
-        reply: reply,
-        carry: flat::flag_number(0, carry),
-        x: x,
-        y: y,
-        a: a,
-    }
 }

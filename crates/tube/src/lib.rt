@@ -8,21 +8,21 @@ ghost use Rattle.flat.specs.Flat.{flatName};
 ghost use Rattle.flat_reader.specs.Readers.{freshReader, Flat-done};
 ghost use Rattle.flat_request.specs.Feeds.{Flat-feed-done};
 ghost use Rattle.flat_request_writer.specs.Calls.{callAt, Flat-request-done};
-ghost use Rattle.flat_link.specs.Kinds.{kindAt, Flat-kind-done};
+ghost use Rattle.flat_kind.specs.Kinds.{kindAt, Flat-kind-done};
 ghost use Rattle.flat_link.specs.Links.{freshLink, Flat-step-done, Flat-begin-done};
 ghost use Rattle.flat_link.specs.Runs.{Flat-run-done};
-ghost use Rattle.flat_link.specs.Replies.{replyAt, Flat-reply-done, Flat-read-done};
+ghost use Rattle.flat_reply.specs.Replies.{replyAt, Flat-reply-done, Flat-read-done};
 use chip::Chip;
 use flat::FlatName;
 use flat::FlatWritten;
+use flat_kind::FlatKind;
 use flat_link::FlatBegun;
-use flat_link::FlatGiven;
-use flat_link::FlatKind;
 use flat_link::FlatLink;
 use flat_link::FlatRan;
 use flat_link::FlatTold;
 use flat_reader::FlatRead;
 use flat_reader::FlatReader;
+use flat_reply::FlatGiven;
 use flat_request::FlatFed;
 use script::Played;
 
@@ -153,7 +153,7 @@ pub extern "C" fn tube_link_step(
     }
 }
 
-// Writes a reply: see `flat_link::write_reply`.
+// Writes a reply: see `flat_reply::write_reply`.
 #[no_mangle]
 pub extern "C" fn tube_write_reply(
     call: u8,
@@ -169,21 +169,21 @@ pub extern "C" fn tube_write_reply(
 ) -> FlatWritten
     ensures { λ r. ⌜ Flat-reply-done call (kindAt call «out_length») reply (replyAt reply carry x y a) (now (block .entry)) (now (text .entry)) (now (out .entry)) r (now (out .exit)) ⌝ }
 {
-    flat_link::write_reply(call, out_length, reply, carry, x, y, a, block, text, out)
+    flat_reply::write_reply(call, out_length, reply, carry, x, y, a, block, text, out)
 }
 
-// The fields of a finished reply: see `flat_link::read_reply`.
+// The fields of a finished reply: see `flat_reply::read_reply`.
 #[no_mangle]
 pub extern "C" fn tube_read_reply(call: u8, out_length: u8, bytes: &[u8]) -> FlatGiven
     ensures { λ r. ⌜ Flat-read-done call (kindAt call «out_length») (now (bytes .entry)) r ⌝ }
 {
-    flat_link::read_reply(call, out_length, bytes)
+    flat_reply::read_reply(call, out_length, bytes)
 }
 
-// The kind of a finished request: see `flat_link::kind_of`.
+// The kind of a finished request: see `flat_kind::kind_of`.
 #[no_mangle]
 pub extern "C" fn tube_kind_of(code: u8, body: &[u8]) -> FlatKind
     ensures { λ r. ⌜ Flat-kind-done code (now (body .entry)) r ⌝ }
 {
-    flat_link::kind_of(code, body)
+    flat_kind::kind_of(code, body)
 }

@@ -1,8 +1,8 @@
 -- With the call in range these are the fields read by its kind, flat; else the record that says nothing.
-use Rattle.flat_link.proofs.Replies.{read-known, read-unknown}
+use Rattle.flat_reply.proofs.Replies.{read-known, read-unknown}
 use borrow.Author.Needs.{needs}
-use Rattle.flat_link.proofs.read_reply.Statement.{statement}
-use Rattle.flat_link.proofs.read_reply.Tie as tie
+use Rattle.flat_reply.proofs.read_reply.Statement.{statement}
+use Rattle.flat_reply.proofs.read_reply.Tie as tie
 
 kind-at-requires : tie.Need-kind-at-requires
 kind-at-requires c κs = search needs

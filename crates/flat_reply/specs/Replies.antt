@@ -16,8 +16,8 @@ use Rattle.reply.specs.declared.Given.{Given}
 use Rattle.reply.specs.Promise.{replyFor, Read-done}
 use Rattle.flat.specs.declared.FlatWritten.{FlatWritten}
 use Rattle.flat.specs.Flat.{flagNumber}
-use Rattle.flat_link.specs.declared.FlatGiven.{FlatGiven}
-use Rattle.flat_link.specs.Kinds.{lastCall}
+use Rattle.flat_reply.specs.declared.FlatGiven.{FlatGiven}
+use Rattle.flat_kind.specs.Kinds.{lastCall}
 
 -- the replies in the order of the program's, from 0, with the numbers that each has; a carry is set where its number is not 0
 abbrev pub replyAt : ℕ → ℕ → ℕ → ℕ → ℕ → Reply

@@ -15,11 +15,11 @@ use Rattle.reply.specs.declared.Reply.{Reply}
 use Rattle.reply.specs.declared.Given.{Given}
 use Rattle.reply.specs.Promise.{Read-done}
 use Rattle.reply_writer.specs.Promise.{Reply-done}
-use Rattle.flat_link.specs.declared.FlatGiven.{FlatGiven}
+use Rattle.flat_reply.specs.declared.FlatGiven.{FlatGiven}
 use Rattle.flat.specs.declared.FlatWritten.{FlatWritten}
 use Rattle.flat.specs.Flat.{flatWritten}
-use Rattle.flat_link.specs.Kinds.{lastCall}
-use Rattle.flat_link.specs.Replies.{replyKnown, replyRaw, Flat-reply-done, flatGiven, noReply, Flat-read-done}
+use Rattle.flat_kind.specs.Kinds.{lastCall}
+use Rattle.flat_reply.specs.Replies.{replyKnown, replyRaw, Flat-reply-done, flatGiven, noReply, Flat-read-done}
 
 module _ {call n : ℕ} {kind : CallKind} {reply : Reply} {b t out : List ℕ} {o : FlatWritten} where
   pub done : {k : CallKind} {given : Reply} {w : Written} {left : List ℕ} → replyKnown call n ≡ true → k ≡ kind → given ≡ reply

@@ -8,7 +8,7 @@ use Rattle.serial_rules.specs.Reply.{kindIn}
 use Rattle.kind.specs.Kinds.{kindFor}
 use Rattle.kind.specs.declared.CallKind.{CallKind}
 use Rattle.kind.specs.declared.CallKind.the-variants.{Osrdch, Oscli, OsbyteLow, OsbyteHigh, Osword, Osword0, Osargs, Osbget, Osbput, OsfindClose, OsfindOpen, Osfile, Osgbpb}
-use Rattle.flat_link.specs.declared.FlatKind.{FlatKind}
+use Rattle.flat_kind.specs.declared.FlatKind.{FlatKind}
 
 -- the kinds in the order of the request table, from 0; OSWORD has its out length. A number above the last falls to the last.
 abbrev pub kindAt : ℕ → ℕ → CallKind

@@ -1,8 +1,8 @@
 -- The kind of the request, by its number and out length, which stand for it again.
-use Rattle.flat_link.proofs.Conversions.{kind-flat}
+use Rattle.flat_kind.proofs.Numbers.{kind-flat}
 use borrow.Author.Needs.{needs}
-use Rattle.flat_link.proofs.kind_of.Statement.{statement}
-use Rattle.flat_link.proofs.kind_of.Tie as tie
+use Rattle.flat_kind.proofs.kind_of.Statement.{statement}
+use Rattle.flat_kind.proofs.kind_of.Tie as tie
 
 of-request-requires : tie.Need-of-request-requires
 of-request-requires c κs = search needs

@@ -1,7 +1,7 @@
 -- Each reply has its own number and the numbers that it carries.
 use borrow.Author.Needs.{needs}
-use Rattle.flat_link.proofs.flat_given.Statement.{statement}
-use Rattle.flat_link.proofs.flat_given.Tie as tie
+use Rattle.flat_reply.proofs.flat_given.Statement.{statement}
+use Rattle.flat_reply.proofs.flat_given.Tie as tie
 
 enum-known-reply : tie.Need-enum-known-reply
 enum-known-reply c = search needs

@@ -1,8 +1,8 @@
 -- Both numbers are in range exactly where both tests pass.
-use Rattle.flat_link.specs.Replies.{replyKnown}
+use Rattle.flat_reply.specs.Replies.{replyKnown}
 use borrow.Author.Tests.{le-leb, lt-leb}
-use Rattle.flat_link.proofs.reply_known.Statement.{statement}
-use Rattle.flat_link.proofs.reply_known.Tie as tie
+use Rattle.flat_reply.proofs.reply_known.Statement.{statement}
+use Rattle.flat_reply.proofs.reply_known.Tie as tie
 
 returns : tie.Need-returns
 unfolding replyKnown

@@ -1,9 +1,9 @@
 -- With both numbers in range this is the writer; else the two refusals that come before the room, in their order.
-use Rattle.flat_link.proofs.Replies.{done, too-long, bad-field}
+use Rattle.flat_reply.proofs.Replies.{done, too-long, bad-field}
 use mathlib.Core.Path.{sym, _∙_}
 use borrow.Author.Needs.{needs}
-use Rattle.flat_link.proofs.write_reply.Statement.{statement}
-use Rattle.flat_link.proofs.write_reply.Tie as tie
+use Rattle.flat_reply.proofs.write_reply.Statement.{statement}
+use Rattle.flat_reply.proofs.write_reply.Tie as tie
 
 reply-known-requires : tie.Need-reply-known-requires
 reply-known-requires c κs = search needs

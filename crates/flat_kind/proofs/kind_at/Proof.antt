@@ -1,7 +1,7 @@
--- Each arm is the reply of its number; a number of no arm fails all the tests.
+-- Each arm is the kind of its number; a number of no arm fails all the tests.
 use borrow.Author.Tests.{ne-eqb}
-use Rattle.flat_link.proofs.reply_at.Statement.{statement}
-use Rattle.flat_link.proofs.reply_at.Tie as tie
+use Rattle.flat_kind.proofs.kind_at.Statement.{statement}
+use Rattle.flat_kind.proofs.kind_at.Tie as tie
 
 returns : tie.Need-returns
 returns c = rw (c .match .keys1)
@@ -31,9 +31,21 @@ returns-9 : tie.Need-returns-9
 returns-9 c = rw (c .match .keys9)
 
 returns-10 : tie.Need-returns-10
-returns-10 c =
+returns-10 c = rw (c .match .keys10)
+
+returns-11 : tie.Need-returns-11
+returns-11 c = rw (c .match .keys11)
+
+returns-12 : tie.Need-returns-12
+returns-12 c = rw (c .match .keys12)
+
+returns-13 : tie.Need-returns-13
+returns-13 c =
     let m = c .match .rest in
     simp (
+      ne-eqb _ _ (m .0 .0 .0 .0 .0 .0 .0 .0 .0 .0 .0 .1),
+      ne-eqb _ _ (m .0 .0 .0 .0 .0 .0 .0 .0 .0 .0 .1),
+      ne-eqb _ _ (m .0 .0 .0 .0 .0 .0 .0 .0 .0 .1),
       ne-eqb _ _ (m .0 .0 .0 .0 .0 .0 .0 .0 .1),
       ne-eqb _ _ (m .0 .0 .0 .0 .0 .0 .0 .1),
       ne-eqb _ _ (m .0 .0 .0 .0 .0 .0 .1),
@@ -45,8 +57,8 @@ returns-10 c =
       ne-eqb _ _ (m .1),
     )
 
-pub reply-at-spec : {M : Type 1} → statement M
-reply-at-spec =
+pub kind-at-spec : {M : Type 1} → statement M
+kind-at-spec =
     tie.close
     (tie.spec
     returns
@@ -58,4 +70,7 @@ reply-at-spec =
     returns-7
     returns-8
     returns-9
-    returns-10)
+    returns-10
+    returns-11
+    returns-12
+    returns-13)

@@ -1,7 +1,7 @@
 -- The carry as a number, and the rest as given.
 use borrow.Author.Needs.{needs}
-use Rattle.flat_link.proofs.numbered.Statement.{statement}
-use Rattle.flat_link.proofs.numbered.Tie as tie
+use Rattle.flat_reply.proofs.numbered.Statement.{statement}
+use Rattle.flat_reply.proofs.numbered.Tie as tie
 
 flag-number-requires : tie.Need-flag-number-requires
 flag-number-requires c κs = search needs
