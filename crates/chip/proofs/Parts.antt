@@ -10,9 +10,8 @@ use native.Mathlib.Numerals.{add-one}
 use native.Mathlib.Decide.{ℕ-discrete}
 use borrow.Author.Tests.{leb-true, le-leb, ltb-true, ltb-false, eqb-true}
 use Rattle.word.specs.Word.{power, digit, Replaced, Slid}
-use Rattle.flags.specs.Flags.{flagsOf}
 use Rattle.chip.specs.declared.Chip.{Chip}
-use Rattle.chip.specs.Each.{each, every}
+use Rattle.chip.specs.Each.{each}
 use Rattle.chip.specs.Record.{places, byteIn, byteOf, countOf, contents, stateOf, validOf}
 use Rattle.chip.specs.Promise.{Unused-kept}
 use Rattle.chip.specs.Steps.{Stored, Moved-down, Counted, Put-done, Take-done}
@@ -31,10 +30,10 @@ few k h = leb-true (places k) 10 (every-at (λ j. leb (places j) 10) 8 k refl h)
 
 -- The words that the code compares counts with, byte by byte: the capacities, and the limits while V is clear. Each is computed once.
 abbrev capacities : ℕ
-capacities = 72341276644674049
+capacities = 0x0101020201010A01
 
 abbrev limits : ℕ
-limits = 72340172838078977
+limits = 0x0101010101010A01
 
 pub capacity-at : (k : ℕ) → k < 8 → digit capacities k ≡ capacity k
 unfolding capacity digit power

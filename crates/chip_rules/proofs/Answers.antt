@@ -1,17 +1,17 @@
 -- Every access gets the answer that document 01 lists for it, and a refused one gives byte 0 and leaves everything as it was.
-use Prim.Native.Nat.{ℕ, zero, suc, _/_, _%_}
-use mathlib.Core.Path.{_≡_, refl, sym, ap, _∙_}
+use Prim.Native.Nat.{ℕ, suc, _/_, _%_}
+use mathlib.Core.Path.{_≡_, refl, ap}
 use mathlib.Core.Bool.{Bool, true, false, cond, not, _&&_}
-use mathlib.Core.List.{List, [], _∷_}
+use mathlib.Core.List.{[], _∷_}
 use native.Mathlib.Omega.{arith}
 use lib.Dec.{eqb}
 use lib.ListN.{length}
 use lib.Seq.{set-getD}
 use borrow.Author.Tests.{ne-eqb}
 use Rattle.chip_rules.specs.State.{Channel, empty, held, State, fed, toward, chan, put, Access, Outcome}
-use Rattle.chip_rules.specs.Rules.{Request, decode, exists, room, takeOldest, append, on, step, perform}
+use Rattle.chip_rules.specs.Rules.{exists, room, takeOldest, append, on, step, perform}
 use Rattle.chip_rules.specs.History.{View, sound, broken}
-use Rattle.chip_rules.specs.Answers.{writesWithoutRoom, readsEmpty, listed, Answered}
+use Rattle.chip_rules.specs.Answers.{listed, Answered}
 use Rattle.chip_rules.proofs.Laws.{request, by-side, by-none}
 
 -- the same of an outcome at a state

@@ -1,19 +1,17 @@
 -- Laws of the field writers: data bytes on either carrier, one field after another, what the two loops pass, and what the writers promise.
-use Prim.Native.Nat.{ℕ, suc, _+_, _-_, _≤_, _<_}
+use Prim.Native.Nat.{ℕ, _+_, _-_, _≤_, _<_}
 use native.Mathlib.Nat.{zero-add}
-use native.Mathlib.Numerals.{add-one}
 use native.Mathlib.Omega.{arith}
 use mathlib.Core.Path.{_≡_, refl, sym, ap, _∙_}
 use mathlib.Core.Bool.{Bool, true, false, cond, not, _||_, or-assoc, or-false, true≢false}
-use mathlib.Core.List.{List, [], _∷_, _++_, append-assoc, append-nil}
+use mathlib.Core.List.{List, [], _∷_, _++_, append-nil}
 use borrow.Author.Needs.{needs}
 use borrow.Author.Tests.{lt-ltb, le-ltb, ltb-false, leb-true, leb-false}
 use lib.Dec.{eqb, leb, ltb}
-use lib.ListN.{length, take, drop, getD, set, length-append}
-use lib.Seq.{drop-cons, take-suc, set-at}
+use lib.ListN.{length, take, drop, getD, length-append}
 use Rattle.serial_rules.specs.Escape.{escape, escaped, escapes}
 use Rattle.serial_rules.proofs.Stream.{carried-append}
-use Rattle.escape.specs.Put.{over, Put}
+use Rattle.escape.specs.Put.{Put}
 use Rattle.escape.proofs.Laws.{put-as, put-tail, tail-room, escapes-more, escapes-none}
 use Rattle.fields.specs.declared.Written.the-variants.{Done, NoRoom}
 use Rattle.room.specs.Carriers.{carrierOf, coded, partsRaw, fieldsRaw}

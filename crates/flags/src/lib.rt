@@ -1,5 +1,5 @@
 // The chip's six flags P V M J I Q, bits 5 to 0 of one number; the bits above them stand for nothing.
-ghost use Prim.Native.Nat.{_≤_, _<_};
+ghost use Prim.Native.Nat.{_≤_};
 ghost use mathlib.Core.Path.{_≡_};
 ghost use Rattle.chip_rules.specs.Rules.{bit, weigh, low, switched, clears};
 ghost use Rattle.flags.specs.Flags.{flagsOf, Flags-after};

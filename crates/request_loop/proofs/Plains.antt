@@ -3,7 +3,7 @@ use Prim.Native.Nat.{ℕ, suc, _+_, _≤_, _<_}
 use native.Mathlib.Nat.{add-zero}
 use native.Mathlib.Numerals.{add-one}
 use native.Mathlib.Omega.{arith}
-use mathlib.Core.Path.{_≡_, refl, sym, ap, subst, _∙_}
+use mathlib.Core.Path.{_≡_, refl, sym, subst, _∙_}
 use mathlib.Core.Bool.{Bool, true, false, cond}
 use mathlib.Core.List.{List, [], _∷_, _++_, append-assoc, append-nil}
 use lib.Dec.{eqb}
@@ -17,12 +17,11 @@ use Rattle.serial_rules.specs.Body.{Turn, more, done, refused, bodyTurn, longes
 use Rattle.serial_rules.specs.Reader as rules
 use Rattle.turns.specs.Plain.{plain, Plains, none, one, Plain-done}
 use Rattle.turns.proofs.Plain.{no-escape, done-plains, done-most, part-sets}
-use Rattle.request_reader.specs.declared.Phase.{Phase}
 use Rattle.request_reader.specs.declared.Phase.the-variants.{Inside}
 use Rattle.request_reader.specs.declared.Reader.{Reader}
 use Rattle.request_reader.specs.declared.Answer.the-variants.{More}
 use Rattle.request_reader.specs.declared.Stepped.{Stepped}
-use Rattle.request_reader.specs.View.{carrierOf, within, viewOf, answerOf, Step-done}
+use Rattle.request_reader.specs.View.{carrierOf, within, viewOf, Step-done}
 use Rattle.middles.specs.Ahead.{aheadIn}
 use Rattle.middles.proofs.Middle.{Ahead-done, ahead-holds}
 use Rattle.request_reader.specs.Read.{Read, stop, took}

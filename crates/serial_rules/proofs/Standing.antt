@@ -5,9 +5,9 @@ use mathlib.Core.Path.{_≡_, refl, subst}
 use mathlib.Core.Bool.{Bool, true, false, cond, not}
 use mathlib.Core.List.{List, [], _∷_, _++_}
 use native.Mathlib.Omega.{arith}
-use lib.Dec.{leb, eqb}
+use lib.Dec.{eqb}
 use lib.ListN.{getD}
-use borrow.Author.Tests.{eqb-false, leb-true, le-leb, eq-eqb, not-true}
+use borrow.Author.Tests.{eqb-false, le-leb, eq-eqb, not-true}
 use Rattle.serial_rules.specs.Escape.{escape, Piece, pending, dataByte, mark, pieceOf}
 use Rattle.serial_rules.specs.Marks.{bit, isCode, styleOf, codeIn, startsRequest}
 use Rattle.serial_rules.specs.Call.{codeOf, bodyOf, hasReturn, callOk, Carrier, serial, parallel, styleOk, encodingOf}

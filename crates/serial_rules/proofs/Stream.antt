@@ -2,13 +2,13 @@
 -- bytes of the part that is open, are the bytes taken. Each step keeps this, whatever the call.
 use Prim.Native.Nat.{ℕ, _+_, _*_, _/_, _%_}
 use mathlib.Core.Path.{_≡_, refl, sym, ap, _∙_}
-use mathlib.Core.Bool.{Bool, true, false, cond, not, _&&_, true≢false}
+use mathlib.Core.Bool.{Bool, true, false, cond}
 use mathlib.Core.List.{List, [], _∷_, _++_, append-assoc, append-nil}
 use native.Mathlib.Omega.{arith}
-use lib.Dec.{eqb, leb}
-use borrow.Author.Tests.{eqb-true, leb-true}
+use lib.Dec.{eqb}
+use borrow.Author.Tests.{eqb-true}
 use Rattle.serial_rules.specs.Escape.{escape, escaped, Piece, pending, dataByte, mark, pieceOf}
-use Rattle.serial_rules.specs.Marks.{bit, styleOf, codeIn, startsRequest}
+use Rattle.serial_rules.specs.Marks.{styleOf, codeIn, startsRequest}
 use Rattle.serial_rules.specs.Call.{Carrier, serial, parallel, carried, heading}
 use Rattle.serial_rules.specs.Body.{Turn, more, done, refused, bodyTurn}
 use Rattle.serial_rules.specs.Reader.{Reader, stopped, outside, inside, Answer, needMore, character, request, refusal, Step, gives, pieceOutside, pieceInside, starts, begun, outsideStep, turned, insideStep, step}

@@ -5,14 +5,14 @@ use mathlib.Core.Path.{_≡_, refl, sym, ap, subst, _∙_}
 use mathlib.Core.Bool.{Bool, true, false, cond, not, _&&_, _||_, true≢false}
 use mathlib.Core.List.{List, [], _∷_, _++_, append-assoc, append-nil}
 use native.Mathlib.Omega.{arith}
-use lib.Dec.{leb, eqb}
+use lib.Dec.{eqb}
 use lib.ListN.{length, drop, length-append}
 use lib.Seq.{drop-at}
-use borrow.Author.Tests.{ne-eqb, le-ltb, lt-ltb, le-leb, eqb-true, leb-true, not-true}
+use borrow.Author.Tests.{ne-eqb, le-ltb, lt-ltb, eqb-true, leb-true, not-true}
 use Rattle.serial_rules.specs.Escape.{escape}
 use Rattle.serial_rules.specs.Marks.{bit, isCode, startsRequest}
 use Rattle.serial_rules.specs.Call.{Call, osrdch, oscli, osbyteLow, osbyteHigh, osword, osword0, osargs, osbget, osbput, osfindClose, osfindOpen, osfile, osgbpb, codeOf, bodyOf, return, hasReturn, numbersOk, blockOk, hasString, callOk, Carrier, serial, parallel, carried, heading, styleOk, encodingOf}
-use Rattle.serial_rules.specs.Body.{Turn, more, done, stringTurn, fixedTurn, nameTurn, ended, fileTurn, bodyTurn}
+use Rattle.serial_rules.specs.Body.{Turn, more, done, fixedTurn, nameTurn, ended, fileTurn, bodyTurn}
 use Rattle.serial_rules.specs.Reader.{Reader, Answer, needMore, character, refusal, outside, inside, request, Step, begun, turned, step}
 use Rattle.serial_rules.specs.Stream.{Fed, gave, fedBy, feed, answers, Gives}
 use Rattle.serial_rules.proofs.Escape.{escaped-one}

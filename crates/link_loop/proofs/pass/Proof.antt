@@ -2,7 +2,6 @@
 use denote.Ref.{now}
 use Rattle.link_loop.proofs.Plains.{passes-none}
 use borrow.Author.Needs.{needs}
-use borrow.Author.Tests.{not-true}
 use Rattle.link_loop.proofs.pass.Statement.{statement}
 use Rattle.link_loop.proofs.pass.Tie as tie
 

@@ -4,7 +4,7 @@ use borrow.Fn.Kinds.{In}
 use borrow.Fn.PlainCycle.{Measures, is, falls, and}
 use native.Mathlib.Omega.{arith}
 use lib.ListN.{length, length-append}
-use mathlib.Core.Path.{_≡_, ap}
+use mathlib.Core.Path.{ap}
 use Prim.Native.Nat.{ℕ, _<_}
 use Rattle.script_lines.specs.Text.{digitsOf}
 use Rattle.script_lines.proofs.Decimal.{digits-few, digits-more}

@@ -1,7 +1,6 @@
 -- Each arm is the definition's; a fixed number is a byte, so that it lies below the longest.
 use native.Mathlib.Omega.{arith}
 use borrow.Author.Needs.{needs}
-use mathlib.Core.Path.{_∙_}
 use Rattle.serial_rules.specs.Reply.{line}
 use Rattle.shapes.proofs.Ahead.{ahead-fits}
 use Rattle.shapes.proofs.Shape.ahead.Statement.{statement}
