@@ -722,6 +722,18 @@ mod tests {
     }
 
     #[test]
+    fn names_in_bodies() {
+        let body = |name: usize| [&[STRING_END; FILE_BLOCK][..], &vec![b'A'; name]].concat();
+        let ended = |name: usize| [body(name), vec![STRING_END, 1]].concat();
+        assert_eq!(file_name(&ended(0)), Ok(0));
+        assert_eq!(file_name(&ended(255)), Ok(255));
+        assert_eq!(file_name(&ended(256)), Err(6));
+        assert_eq!(file_name(&body(256)), Err(6));
+        assert_eq!(file_name(&body(255)), Err(9));
+        assert_eq!(file_name(&[STRING_END; 3]), Err(9));
+    }
+
+    #[test]
     fn records_beyond_their_limits() {
         let stopped = |carrier: u8, phase: u8, style: u8, code: u8, count: usize| {
             Reader {
