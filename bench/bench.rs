@@ -18,6 +18,12 @@ mod interface;
 #[path = "../second/link.rs"]
 mod link;
 
+// Once more, so that what reads single bytes has one caller here too, as in the
+// library.
+#[allow(dead_code)]
+#[path = "../second/link.rs"]
+mod single;
+
 #[allow(dead_code)]
 #[path = "../second/tube.rs"]
 mod tube;

@@ -1,11 +1,14 @@
-//! Replies, read through the loop and written.
+//! Replies, read through the loop, byte by byte, and written.
 
-use crate::interface::{self, TubeRan, tube_begin, tube_link, tube_run, tube_write_reply};
+use crate::interface::{
+    self, TubeRan, tube_begin, tube_link, tube_link_step, tube_run, tube_write_reply,
+};
 use crate::link::{
     A_BLOCK, ACK, BLOCK, BLOCK_CARRY_A, Begun, CARRY_A, CARRY_Y_X, ESCAPED, LENT, LINE, Link, NOTE,
     NUMBER, OSWORD, OSWORD_0, PLAIN, Ran, Reply, Told,
 };
 use crate::measure::{BYTES, Random, Table, add, best, copying, letters};
+use crate::single;
 
 /// A reply with bytes of its own, and what comes before it.
 struct Load {
@@ -225,6 +228,87 @@ fn read_rust(talk: &Talk, lent: &mut Lent) -> u64 {
     })
 }
 
+/// The same by single bytes. `begin` says whether a call waits; `step` gives the
+/// kind of an answer, and what it is, or nothing where more is needed.
+fn read_bytes<T>(
+    talk: &Talk,
+    lent: &mut Lent,
+    link: &mut T,
+    begin: impl Fn(&mut T, u8, u8) -> bool,
+    step: impl Fn(&mut T, u8, &mut Lent) -> Option<(u8, u64)>,
+) -> u64 {
+    let mut checksum = 0;
+    let mut rest = talk.stream.iter();
+    for &(call, out_length) in &talk.calls {
+        if !begin(link, call, out_length) {
+            continue;
+        }
+        for &raw in rest.by_ref() {
+            if let Some((kind, what)) = step(link, raw, lent) {
+                add(&mut checksum, what << 8 | kind as u64);
+                if kind == interface::REPLY {
+                    add(&mut checksum, lent.reply[what as usize - 1] as u64);
+                    break;
+                }
+            }
+        }
+    }
+    assert!(rest.next().is_none());
+    checksum
+}
+
+fn bytes_library(talk: &Talk, lent: &mut Lent) -> u64 {
+    read_bytes(
+        talk,
+        lent,
+        &mut unsafe { tube_link() },
+        |link, call, out_length| {
+            let begun = unsafe { tube_begin(*link, call, out_length) };
+            *link = begun.link;
+            begun.kind == 0
+        },
+        |link, raw, lent| {
+            let (reply, own) = (lent.reply.as_mut_ptr(), lent.own.as_mut_ptr());
+            let told = unsafe { tube_link_step(*link, raw, reply, own) };
+            *link = told.link;
+            let numbers = [told.first, told.second, told.third, told.fourth];
+            match told.kind {
+                interface::NEED_MORE => None,
+                kind => Some((
+                    kind,
+                    told.length as u64 + u32::from_le_bytes(numbers) as u64,
+                )),
+            }
+        },
+    )
+}
+
+#[inline(never)]
+fn single_begin(link: &mut single::Link, call: u8, out_length: u8) -> single::Begun {
+    link.begin(call, out_length)
+}
+
+#[inline(never)]
+fn single_step(link: &mut single::Link, raw: u8, lent: &mut Lent) -> single::Told {
+    link.step(raw, &mut lent.reply, &mut lent.own)
+}
+
+fn bytes_rust(talk: &Talk, lent: &mut Lent) -> u64 {
+    read_bytes(
+        talk,
+        lent,
+        &mut single::Link::new(),
+        |link, call, out_length| single_begin(link, call, out_length) == single::Begun::Waits,
+        |link, raw, lent| match single_step(link, raw, lent) {
+            single::Told::More => None,
+            single::Told::Escape(on) => Some((2, on as u64)),
+            single::Told::Event([y, x, a]) => Some((3, u32::from_le_bytes([y, x, a, 0]) as u64)),
+            single::Told::Reply(length) => Some((interface::REPLY, length as u64)),
+            told => panic!("{told:?}"),
+        },
+    )
+}
+
 // ---- Writing ----
 
 #[inline(never)]
@@ -290,6 +374,7 @@ pub fn tables() -> Option<Vec<Table>> {
         ("OSWORD 0, 255 bytes", alike(OSWORD_0)),
     ];
     let mut read = Table::new("Replies read by the loop:", &BYTES);
+    let mut single = Table::new("Replies read byte by byte:", &BYTES);
     let mut written = Table::new("Replies written:", &BYTES);
     for (name, load) in &loads {
         let talk = Talk::new(load);
@@ -300,6 +385,11 @@ pub fn tables() -> Option<Vec<Table>> {
         let copy = copying(&talk.stream, &talk.pieces);
         read.bytes_row(name, talk.stream.len(), times, copy);
 
+        let times = best([&mut || bytes_library(&talk, &mut one), &mut || {
+            bytes_rust(&talk, &mut two)
+        }])?;
+        single.bytes_row(name, talk.stream.len(), times, copy);
+
         let replies: Vec<Reply> = load.iter().map(Load::reply).collect();
         let times = best([&mut || write_library(&replies), &mut || {
             write_rust(&replies)
@@ -307,5 +397,5 @@ pub fn tables() -> Option<Vec<Table>> {
         let (bytes, pieces) = encoded(&replies);
         written.bytes_row(name, bytes.len(), times, copying(&bytes, &pieces));
     }
-    Some(vec![read, written])
+    Some(vec![read, single, written])
 }

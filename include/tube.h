@@ -171,7 +171,7 @@ enum { TUBE_CALLS = 13 }; /* how many there are */
  * (inside a request: a style above 3, or above 0 on the parallel side; a code without a body; a count not below its longest body), counts
  * as stopped. */
 typedef struct {
-    size_t count; /* bytes of the body so far */
+    uint16_t count; /* bytes of the body so far */
     uint8_t carrier;
     uint8_t phase;
     uint8_t escape;
@@ -186,7 +186,7 @@ typedef struct {
  *   refused     value is the answer's number: 4, 5, 6 or 9, and the reader is stopped, or 7 */
 typedef struct {
     TubeReader reader; /* for the next byte */
-    size_t length;
+    uint32_t length;
     uint8_t kind;
     uint8_t value;
     uint8_t style;

@@ -15,7 +15,7 @@ const LONGEST: [usize; 12] = [0, 256, 2, 3, 258, 5, 6, 1, 2, 257, 273, 14];
 impl TubeReader {
     fn from_second(reader: &Reader) -> TubeReader {
         TubeReader {
-            count: reader.count,
+            count: reader.count as u16,
             carrier: reader.carrier,
             phase: reader.phase,
             escape: reader.escape as u8,
@@ -31,7 +31,7 @@ impl TubeReader {
             escape: self.escape != 0,
             style: self.style,
             code: self.code,
-            count: self.count,
+            count: self.count as usize,
         }
     }
 }
@@ -359,7 +359,7 @@ impl Seen {
             inside && record.carrier == PARALLEL && record.style > 0,
             inside && record.code == 0,
             inside && record.code != 0 && !good_code,
-            inside && good_code && record.count >= LONGEST[record.code as usize / 2],
+            inside && good_code && record.count as usize >= LONGEST[record.code as usize / 2],
         ];
         if faults.iter().filter(|&&fault| fault).count() == 1 {
             let only = faults.iter().position(|&fault| fault).unwrap();
@@ -586,7 +586,7 @@ fn compare_answer(
     check(group.value, library.value == value, &|| {
         format!("{library:?}, second program {answer:?}")
     });
-    let given = (library.style, library.code, library.length);
+    let given = (library.style, library.code, library.length as usize);
     check(group.request, given == request, &|| {
         format!("{library:?}, second program {answer:?}")
     });
@@ -921,17 +921,17 @@ impl Random {
         let count = match self.below(32) {
             0 => longest,
             1 => longest + 1 + self.below(20),
-            2 => self.next() as usize,
-            3 => usize::MAX - self.below(300),
+            2 => self.next() as u16 as usize,
+            3 => u16::MAX as usize - self.below(300),
             // Within the limit in its lowest bits only.
-            4 => self.below(longest + 1) + (256 << self.below(40)),
+            4 => self.below(longest + 1) + (256 << self.below(8)),
             5..8 => longest.saturating_sub(1 + self.below(3)),
             8..10 => self.below(20).min(longest),
             10..14 => self.below(3),
             _ => self.below(longest.max(1)),
         };
         TubeReader {
-            count,
+            count: count as u16,
             carrier,
             phase,
             escape,
@@ -988,7 +988,7 @@ fn compare_step(record: TubeReader, raw: u8, lent: &Lent, seen: &mut Seen, repor
         second: *lent,
     };
     let what = || {
-        let count = record.count.clamp(1, BODY);
+        let count = (record.count as usize).clamp(1, BODY);
         format!(
             "lent bytes {:02X?}, the one before the count &{:02X}",
             &lent[GUARD..GUARD + 4],
@@ -1008,7 +1008,7 @@ fn compare_fed(random: &mut Random, count: u64, seen: &mut Seen, report: &mut Re
 
 fn compare_one_fed(random: &mut Random, seen: &mut Seen, report: &mut Report) {
     let record = random.reader_record();
-    let lent = random.lent(record.count);
+    let lent = random.lent(record.count as usize);
     let mut pair = Pair {
         record,
         library: lent,
@@ -1047,7 +1047,7 @@ fn compare_each_step(random: &mut Random, seen: &mut Seen, report: &mut Report) 
         for raw in [0x9B, 0x0D, 0x00, 0x7F, 0x80, 0x41] {
             for escape in [0, random.at_least(1)] {
                 let record = TubeReader {
-                    count,
+                    count: count as u16,
                     carrier: carrier as u8,
                     phase: INSIDE,
                     escape,
@@ -1063,7 +1063,7 @@ fn compare_each_step(random: &mut Random, seen: &mut Seen, report: &mut Report) 
         let mut record = random.reader_record();
         record.phase = phase as u8;
         record.escape = escape as u8;
-        let lent = random.lent(record.count);
+        let lent = random.lent(record.count as usize);
         compare_step(record, raw as u8, &lent, seen, report);
     }
 }
@@ -1071,7 +1071,7 @@ fn compare_each_step(random: &mut Random, seen: &mut Seen, report: &mut Report) 
 fn compare_steps(random: &mut Random, count: u64, seen: &mut Seen, report: &mut Report) {
     for _ in 0..count {
         let record = random.reader_record();
-        let lent = random.lent(record.count);
+        let lent = random.lent(record.count as usize);
         let raw = random.reader_raw();
         compare_step(record, raw, &lent, seen, report);
     }

@@ -31,7 +31,7 @@ pub struct TubePlayed {
 #[repr(C)]
 #[derive(Clone, Copy, PartialEq, Debug)]
 pub struct TubeReader {
-    pub count: usize,
+    pub count: u16,
     pub carrier: u8,
     pub phase: u8,
     pub escape: u8,
@@ -45,7 +45,7 @@ pub struct TubeReader {
 #[derive(Clone, Copy, Debug)]
 pub struct TubeRead {
     pub reader: TubeReader,
-    pub length: usize,
+    pub length: u32,
     pub kind: u8,
     pub value: u8,
     pub style: u8,

@@ -303,7 +303,7 @@ static TubeReader any_reader(void) {
     r.style = tag(r.carrier == TUBE_SERIAL ? 4 : 1);
     r.code = below(12) == 0 ? byte() : (uint8_t)(2 + 2 * below(11));
     static const size_t longest[12] = {1, 256, 2, 3, 258, 5, 6, 1, 2, 257, 273, 14};
-    r.count = count(r.code <= TUBE_CODE_OSGBPB ? longest[r.code / 2] : 273);
+    r.count = (uint16_t)count(r.code <= TUBE_CODE_OSGBPB ? longest[r.code / 2] : 273);
     return r;
 }
 

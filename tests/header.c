@@ -44,11 +44,11 @@ static void layout(void) {
     expect("layout of the chip", sizeof(TubeChip) == 40 && AT(TubeChip, oldest, 0) && AT(TubeChip, next, 8) && AT(TubeChip, later, 16) && AT(TubeChip, held, 24) && AT(TubeChip, flags, 32)
                                      && sizeof(TubeReply) == 2 && AT(TubeReply, answer, 0) && AT(TubeReply, byte, 1));
     expect("layout of the player", sizeof(TubePlayed) == 56 && AT(TubePlayed, played, 0) && AT(TubePlayed, answer, 8) && AT(TubePlayed, chip, 16));
-    expect("layout of the reader", sizeof(TubeReader) == 16 && AT(TubeReader, count, 0) && AT(TubeReader, carrier, 8) && AT(TubeReader, phase, 9)
-                                       && AT(TubeReader, escape, 10) && AT(TubeReader, style, 11) && AT(TubeReader, code, 12)
-                                       && sizeof(TubeRead) == 32 && AT(TubeRead, reader, 0) && AT(TubeRead, length, 16) && AT(TubeRead, kind, 24)
-                                       && AT(TubeRead, value, 25) && AT(TubeRead, style, 26) && AT(TubeRead, code, 27)
-                                       && sizeof(TubeFed) == 40 && AT(TubeFed, read, 0) && AT(TubeFed, used, 32));
+    expect("layout of the reader", sizeof(TubeReader) == 8 && AT(TubeReader, count, 0) && AT(TubeReader, carrier, 2) && AT(TubeReader, phase, 3)
+                                       && AT(TubeReader, escape, 4) && AT(TubeReader, style, 5) && AT(TubeReader, code, 6)
+                                       && sizeof(TubeRead) == 16 && AT(TubeRead, reader, 0) && AT(TubeRead, length, 8) && AT(TubeRead, kind, 12)
+                                       && AT(TubeRead, value, 13) && AT(TubeRead, style, 14) && AT(TubeRead, code, 15)
+                                       && sizeof(TubeFed) == 24 && AT(TubeFed, read, 0) && AT(TubeFed, used, 16));
     expect("layout of the writers, kinds and names", sizeof(TubeWritten) == 16 && AT(TubeWritten, length, 0) && AT(TubeWritten, answer, 8)
                                                   && sizeof(TubeKind) == 2 && AT(TubeKind, call, 0) && AT(TubeKind, out_length, 1)
                                                   && sizeof(TubeName) == 16 && AT(TubeName, length, 0) && AT(TubeName, answer, 8));
@@ -353,7 +353,7 @@ static void requests_read(void) {
     odd[2].phase = 0xFF;
     odd[3].style = 4;
     odd[4].code = 0x18;
-    odd[5].count = SIZE_MAX;
+    odd[5].count = UINT16_MAX;
     body = lend(&one);
     int stopped = 1;
     for (int i = 0; i < 7; i++) {

@@ -52,6 +52,7 @@ pub extern "C" fn tube_access(
     a.reply
 }
 
+// A fresh chip: see `chip::Chip::new`.
 #[no_mangle]
 pub extern "C" fn tube_new() -> Chip
     ensures { λ r. ⌜ r ≡ blank ⌝ }
@@ -59,6 +60,7 @@ pub extern "C" fn tube_new() -> Chip
     Chip::new()
 }
 
+// A reset: see `chip::Chip::reset`.
 #[no_mangle]
 pub extern "C" fn tube_reset(chip: Chip) -> Chip
     ensures { λ r. ⌜ Reset-done chip r ⌝ }
@@ -66,6 +68,7 @@ pub extern "C" fn tube_reset(chip: Chip) -> Chip
     chip.reset()
 }
 
+// The line value: see `chip::Chip::lines`.
 #[no_mangle]
 pub extern "C" fn tube_lines(chip: Chip) -> u8
     ensures { λ r. ⌜ r ≡ lineValue (view chip) ⌝ }

@@ -1,3 +1,3 @@
 pub mod Conversions
 pub mod Links
-pub mod OneByte
+pub mod Field

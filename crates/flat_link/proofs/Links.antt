@@ -21,6 +21,7 @@ use Rattle.link_loop.specs.declared.Ran.{Ran}
 use Rattle.link.specs.View.{usableOf, viewOf, reportOf, replyAfter, ownAfter, stoppedFrom, begunOf, Begin-done, Step-done}
 use Rattle.link_loop.specs.Run.{Run-done}
 use Rattle.flat_link.specs.declared.FlatLink.{FlatLink}
+use Rattle.flat_link.specs.declared.FlatTold.{FlatTold}
 use Rattle.flat_link.specs.declared.FlatRan.{FlatRan}
 use Rattle.flat_link.specs.declared.FlatBegun.{FlatBegun}
 use Rattle.flat_kind.specs.Kinds.{kindAt, lastCall}
@@ -41,7 +42,7 @@ told-is f (variant.Error n k) reply own = refl
 told-is f variant.Restart reply own = refl
 told-is f (variant.Refused n) reply own = refl
 
-pub link-is : (f : FlatLink) (a : Answer) → flatTold f a .link ≡ f
+link-is : (f : FlatLink) (a : Answer) → flatTold f a .link ≡ f
 link-is f variant.More = refl
 link-is f (variant.Character b) = refl
 link-is f (variant.Reply n) = refl
@@ -78,7 +79,7 @@ stopped-flat f ok z =
     e ∙ ap flatStopped (flat-back f ok)
 
 -- a step of the link, flat
-pub step-flat : {f : FlatLink} {reply own reply-left own-left : List ℕ} {x : ℕ} {s : Stepped} → tagsOk f ≡ true
+step-flat : {f : FlatLink} {reply own reply-left own-left : List ℕ} {x : ℕ} {s : Stepped} → tagsOk f ≡ true
     → Step-done (linkOf f) reply own x s reply-left own-left → Flat-step-done f reply own x (flatTold (flatOf f (s .link)) (s .answer)) reply-left own-left
 step-flat {f} {reply} {own} {reply-left} {own-left} {x} {s} ok d =
     let g = flatOf f (s .link) in
@@ -96,7 +97,7 @@ step-flat {f} {reply} {own} {reply-left} {own-left} {x} {s} ok d =
     }
 
 -- a record with a number out of range refuses a byte as a stopped link does
-pub out-of-range : {f : FlatLink} {reply own : List ℕ} {x : ℕ} → tagsOk f ≡ false → Flat-step-done f reply own x (flatTold f (variant.Refused 7)) reply own
+out-of-range : {f : FlatLink} {reply own : List ℕ} {x : ℕ} → tagsOk f ≡ false → Flat-step-done f reply own x (flatTold f (variant.Refused 7)) reply own
 unfolding rules.step replyAfter ownAfter
 out-of-range out = record {
   answer = rw out;
@@ -108,6 +109,15 @@ out-of-range out = record {
   told = variant.Refused 7;
   told-is = refl;
 }
+
+-- one byte, by whether the numbers are in range
+module _ {f : FlatLink} {reply own : List ℕ} {x : ℕ} {r : FlatTold} where
+  pub step-known : {l : Link} {s : Stepped} {g : FlatLink} {reply-left own-left : List ℕ} → tagsOk f ≡ true → l ≡ linkOf f → Step-done l reply own x s reply-left own-left
+      → g ≡ flatOf f (s .link) → r ≡ flatTold g (s .answer) → Flat-step-done f reply own x r reply-left own-left
+  step-known ok u d p q = rw (q, p) (step-flat ok (rw u at d))
+
+  pub step-unknown : tagsOk f ≡ false → r ≡ flatTold f (variant.Refused 7) → Flat-step-done f reply own x r reply own
+  step-unknown out q = rw q (out-of-range out)
 
 -- the loop, by whether the numbers are in range
 module _ {f : FlatLink} {reply own raw room : List ℕ} {r : FlatRan} where

@@ -1,8 +1,11 @@
 // The link as a flat record: numbers for its enums and bools, with total conversions, so that it can cross to C.
+ghost use Prim.Native.Nat.{_<_};
 ghost use mathlib.Core.Path.{_≡_};
+ghost use mathlib.Core.Bool.{true};
 ghost use Rattle.link.specs.View.{begunOf};
-ghost use Rattle.flat_link.specs.Links.{waitAt, doingAt, linkOf, tagsOk, freshLink, waitNumber, waitOut, doingNumber, flagsNumber, flatOf, toldWith, flatTold, flatBegun, Flat-begin-done};
+ghost use Rattle.flat_link.specs.Links.{waitAt, doingAt, linkOf, tagsOk, freshLink, waitNumber, waitOut, doingNumber, flagsNumber, flatOf, toldWith, flatTold, flatBegun, Flat-begin-done, Flat-step-done};
 ghost use Rattle.flat_link.specs.Runs.{flatRan, flatUnknown, ranWith, Flat-run-done};
+ghost use Rattle.flat_link.specs.Field.{placedNext, In-field};
 use flat_kind::FlatKind;
 use link::Action;
 use link::Answer;
@@ -83,6 +86,69 @@ pub fn begin(link: FlatLink, call: u8, out_length: u8) -> FlatBegun
         }
     }
     flat_begun(link, Begun::Denied(7))
+}
+
+// One raw byte: see `link::Link::step`. A plain byte in the middle of a reply is stored on the record as it is, with no way to the link's enums
+// and back.
+pub fn step(link: FlatLink, raw: u8, reply: &mut [u8; 257], own: &mut [u8; 257]) -> FlatTold
+    ensures { λ r. ⌜ Flat-step-done link (now (reply .entry)) (now (own .entry)) raw r (now (reply .exit)) (now (own .exit)) ⌝ }
+{
+    if in_field(link, raw) {
+        // As a slice, whose length the proof knows.
+        let lent: &mut [u8] = reply;
+        lent[link.got as usize] = raw;
+        return told(next_place(link), 0, 0, 0);
+    }
+    if has_tags(link) {
+        let stepped = unflattened(link).step(raw, reply, own);
+        let answer = stepped.answer;
+        let next = stepped.link;
+        return flat_told(flattened(link, next), answer);
+    }
+    flat_told(link, Answer::Refused(7))
+}
+
+// Whether a raw byte is a plain one in the middle of the reply that a call waits for: no action is open, no escape seen.
+fn in_field(link: FlatLink, raw: u8) -> bool
+    ensures { λ r. ⌜ (r ≡ true → In-field link raw) ⌝ }
+{
+    if link.flags != 0 {
+        return false;
+    }
+    if link.action != 0 {
+        return false;
+    }
+    if link.held != 0 {
+        return false;
+    }
+    if link.wait == 0 {
+        return false;
+    }
+    if 13 < link.wait {
+        return false;
+    }
+    if !turns::is_plain(raw) {
+        return false;
+    }
+    let ahead = flat_kind::kind_at(link.wait - 1, link.out_length)
+        .shape()
+        .ahead(link.got as usize);
+    0 < ahead
+}
+
+// The record after one more byte of the reply.
+fn next_place(link: FlatLink) -> FlatLink
+    requires { ⌜ link .got < 257 ⌝ }
+    ensures { λ r. ⌜ r ≡ placedNext link ⌝ }
+{
+    FlatLink {
+        got: link.got + 1,
+        held: link.held,
+        wait: link.wait,
+        out_length: link.out_length,
+        action: link.action,
+        flags: link.flags,
+    }
 }
 
 // The loop over raw bytes: see `link_loop::run`.

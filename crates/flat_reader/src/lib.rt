@@ -1,17 +1,17 @@
 // The request reader as a flat record: numbers for the enums and the bools, with total conversions, so that it can cross to C.
 ghost use mathlib.Core.Path.{_≡_};
 ghost use Rattle.flat_reader.specs.Readers.{carrierAt, phaseAt, carrierNumber, phaseNumber, readerOf, flatOf, flatRead, flatPlain, tagsOk};
-use request_loop::Fed;
 use request_reader::Answer;
 use request_reader::Carrier;
 use request_reader::Phase;
 use request_reader::Reader;
 
 // A request reader with numbers for its enums: carrier 0 serial, 1 parallel; phase 0 outside a request, 1 inside, 2 stopped; an
-// escape was seen where its number is not 0. A number out of range makes a reader that counts as stopped.
+// escape was seen where its number is not 0. A number out of range makes a reader that counts as stopped. It has at most eight bytes, so
+// that it crosses to C in one register.
 #[repr(C)]
 pub struct FlatReader {
-    pub count: usize,
+    pub count: u16,
     pub carrier: u8,
     pub phase: u8,
     pub escape: u8,
@@ -20,24 +20,22 @@ pub struct FlatReader {
 }
 
 // What a raw byte gives: kind 0 needs more, 1 is a character (value), 2 a request (style, code, its body in the first `length` bytes of
-// the lent body), 3 a refusal (value is its number).
+// the lent body), 3 a refusal (value is its number). It has 16 bytes, so that it comes back in two registers.
 #[repr(C)]
 pub struct FlatRead {
     pub reader: FlatReader,
-    pub length: usize,
+    pub length: u32,
     pub kind: u8,
     pub value: u8,
     pub style: u8,
     pub code: u8,
 }
 
-// The flat result of what a slice gave; `given` is the number of the escape that the caller's record had.
-pub fn flat_answer(given: u8, fed: Fed) -> FlatRead
-    ensures { λ r. ⌜ r ≡ flatRead (flatOf given (fed .reader)) (fed .answer) ⌝ }
+// The flat result of a reader and an answer; `given` is the number of the escape that the caller's record had.
+pub fn flat_answer(given: u8, reader: Reader, answer: Answer) -> FlatRead
+    ensures { λ r. ⌜ r ≡ flatRead (flatOf given reader) answer ⌝ }
 {
-    let answer = fed.answer;
-    let next = fed.reader;
-    flat_read(flattened(given, next), answer)
+    flat_read(flattened(given, reader), answer)
 }
 
 // The flat result of an answer.
@@ -54,7 +52,7 @@ pub fn flat_read(reader: FlatReader, answer: Answer) -> FlatRead
             length,
         } => FlatRead {
             reader: reader,
-            length: length,
+            length: length as u32,
             kind: 2,
             value: 0,
             style: style,

@@ -1,4 +1,4 @@
--- The conversions between a reader and its flat record, there and back, and what `read` and `feed` promise from what `feed` does.
+-- The conversions between a reader and its flat record, there and back, and what `read` and `feed` promise from what the reader's own do.
 use Prim.Native.Nat.{ℕ, zero, suc}
 use native.Mathlib.Omega.{arith}
 use mathlib.Core.Path.{_≡_, refl, sym, ap, ap₂, subst, _∙_}
@@ -22,7 +22,6 @@ use Rattle.request_reader.specs.View.{carrierOf, viewOf, answerOf, lentAfter, S
 use Rattle.request_reader.specs.Read.{Read}
 use Rattle.request_reader.specs.Read as reads
 use Rattle.request_loop.specs.Feed.{told, Feed-done}
-use Rattle.request_loop.proofs.Feeds.{one-fed}
 use Rattle.flat.proofs.Flags.{flag-back, flag-same}
 use Rattle.flat_reader.specs.declared.FlatReader.{FlatReader}
 use Rattle.flat_reader.specs.declared.FlatRead.{FlatRead}
@@ -94,7 +93,7 @@ refusal-is f (Request style code n) e = absurd (omega (arith, e))
 refusal-is f (Refused n) e = refl
 
 -- a step from the flat record of a reader
-step-flat : (e : ℕ) {r : Reader} {lent left : List ℕ} {x : ℕ} {o : Stepped} → Step-done r lent x o left
+pub step-flat : (e : ℕ) {r : Reader} {lent left : List ℕ} {x : ℕ} {o : Stepped} → Step-done r lent x o left
     → Flat-done (flatOf e r) lent x (flatRead (flatOf e (o .reader)) (o .answer)) left
 step-flat e {r} {lent} {left} {x} {o} d =
     let g = flatOf e (o .reader) in
@@ -144,16 +143,16 @@ feed-flat e {left = left} {r = r} d =
     }
 
 -- a record with its tags in range is that of its reader
-own : (f : FlatReader) {p : Reader} → tagsOk f ≡ true → p ≡ readerOf f → flatOf (f .escape) p ≡ f
+pub own : (f : FlatReader) {p : Reader} → tagsOk f ≡ true → p ≡ readerOf f → flatOf (f .escape) p ≡ f
 own f ok u = ap (flatOf (f .escape)) u ∙ flat-back f ok
 
-module _ {f : FlatReader} {p : Reader} {lent left : List ℕ} {r : Fed} {o : FlatRead} (ok : tagsOk f ≡ true) (u : p ≡ readerOf f)
-    (e : o ≡ flatRead (flatOf (f .escape) (r .reader)) (r .answer)) where
-  pub read-byte : {x : ℕ} → Feed-done p lent (x ∷ []) r left → Flat-done f lent x o left
-  read-byte d = rw e (rw (own f ok u) at (step-flat (f .escape) (one-fed d)))
+pub read-byte : {f : FlatReader} {p : Reader} {lent left : List ℕ} {x : ℕ} {r : Stepped} {o : FlatRead} → tagsOk f ≡ true → p ≡ readerOf f
+    → o ≡ flatRead (flatOf (f .escape) (r .reader)) (r .answer) → Step-done p lent x r left → Flat-done f lent x o left
+read-byte {f} ok u e d = rw e (rw (own f ok u) at (step-flat (f .escape) d))
 
-  pub read-slice : {raw : List ℕ} → Feed-done p lent raw r left → Flat-feed-done f lent raw (record { read = o; used = r .used }) left
-  read-slice d = rw e (rw (own f ok u) at (feed-flat (f .escape) d))
+pub read-slice : {f : FlatReader} {p : Reader} {lent left raw : List ℕ} {r : Fed} {o : FlatRead} → tagsOk f ≡ true → p ≡ readerOf f
+    → o ≡ flatRead (flatOf (f .escape) (r .reader)) (r .answer) → Feed-done p lent raw r left → Flat-feed-done f lent raw (record { read = o; used = r .used }) left
+read-slice {f} ok u e d = rw e (rw (own f ok u) at (feed-flat (f .escape) d))
 
 -- one with a tag out of range is refused
 pub out-of-range : {f : FlatReader} {lent : List ℕ} {raw : ℕ} {o : FlatRead} → tagsOk f ≡ false → o ≡ flatRead f (Refused 7) → Flat-done f lent raw o lent

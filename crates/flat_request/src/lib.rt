@@ -1,7 +1,10 @@
 // The request reader on flat records: made, by the byte and over slices.
+ghost use Prim.Native.Nat.{_<_};
 ghost use mathlib.Core.Path.{_≡_};
+ghost use mathlib.Core.Bool.{true};
 ghost use Rattle.flat_reader.specs.Readers.{freshReader, Flat-done};
 ghost use Rattle.flat_request.specs.Feeds.{Flat-feed-done};
+ghost use Rattle.flat_request.specs.Field.{styled, In-field, placedNext};
 use flat_reader::FlatRead;
 use flat_reader::FlatReader;
 use request_reader::Answer;
@@ -27,18 +30,73 @@ pub fn fresh(carrier: u8) -> FlatReader
     }
 }
 
-// One raw byte, as a slice: so `request_loop::feed` stays the one caller of `Reader::step`, which is what makes it fast (docs/DECISIONS.md, 'Speed').
+// One raw byte: see `request_reader::Reader::step`. A plain byte in the middle of a field is stored on the record as it is, with no way to the
+// reader's enums and back.
 pub fn read(reader: FlatReader, raw: u8, body: &mut [u8; 273]) -> FlatRead
     ensures { λ r. ⌜ Flat-done reader (now (body .entry)) raw r (now (body .exit)) ⌝ }
 {
+    if in_field(reader, raw, body) {
+        body[reader.count as usize] = raw;
+        return flat_reader::flat_read(next_place(reader), Answer::More);
+    }
     if flat_reader::has_tags(reader) {
-        let one = [raw];
-        return flat_reader::flat_answer(
-            reader.escape,
-            request_loop::feed(flat_reader::unflattened(reader), &one, body),
-        );
+        let stepped = flat_reader::unflattened(reader).step(raw, body);
+        let answer = stepped.answer;
+        let next = stepped.reader;
+        return flat_reader::flat_answer(reader.escape, next, answer);
     }
     flat_reader::flat_read(reader, Answer::Refused(7))
+}
+
+// Whether a raw byte is a plain one in the middle of a field: inside a request, within the limits, no escape seen.
+fn in_field(reader: FlatReader, raw: u8, body: &[u8]) -> bool
+    ensures { λ r. ⌜ (r ≡ true → In-field reader (now (body .entry)) raw) ⌝ }
+{
+    if reader.phase != 1 {
+        return false;
+    }
+    if reader.escape != 0 {
+        return false;
+    }
+    if !has_style(reader.carrier, reader.style) {
+        return false;
+    }
+    if !turns::is_plain(raw) {
+        return false;
+    }
+    let count = reader.count as usize;
+    if body.len() <= count {
+        return false;
+    }
+    0 < middles::ahead(reader.code, &body[..count])
+}
+
+// Whether the carrier's number is in range and the style one of its own.
+fn has_style(carrier: u8, style: u8) -> bool
+    ensures { λ r. ⌜ r ≡ styled carrier style ⌝ }
+{
+    if carrier == 0 {
+        return style <= 3;
+    }
+    if carrier == 1 {
+        return style == 0;
+    }
+    false
+}
+
+// The record after one more byte of the body.
+fn next_place(reader: FlatReader) -> FlatReader
+    requires { ⌜ reader .count < 273 ⌝ }
+    ensures { λ r. ⌜ r ≡ placedNext reader ⌝ }
+{
+    FlatReader {
+        count: reader.count + 1,
+        carrier: reader.carrier,
+        phase: reader.phase,
+        escape: reader.escape,
+        style: reader.style,
+        code: reader.code,
+    }
 }
 
 // Raw bytes up to the first answer that is not need-more: see `request_loop::feed`.
@@ -47,8 +105,10 @@ pub fn feed(reader: FlatReader, raw: &[u8], body: &mut [u8; 273]) -> FlatFed
 {
     if flat_reader::has_tags(reader) {
         let fed = request_loop::feed(flat_reader::unflattened(reader), raw, body);
+        let answer = fed.answer;
+        let next = fed.reader;
         return FlatFed {
-            read: flat_reader::flat_answer(reader.escape, fed),
+            read: flat_reader::flat_answer(reader.escape, next, answer),
             used: fed.used,
         };
     }

@@ -15,14 +15,16 @@ use Rattle.turns.proofs.Plain.{no-return}
 use Rattle.middles.specs.Ahead.{wordAhead, findAhead, fileAhead, aheadIn}
 use Rattle.bodies.proofs.Bytes.{word-rest, find-rest, ended-last}
 
--- Behind the bytes s of a body of this code n more plain bytes need more, and leave the count below the code's longest body.
+-- Behind the bytes s of a body of this code n more plain bytes need more, and leave the count below the code's longest body; where there are
+-- some, it is below that already.
 pub record Ahead-done (code : ℕ) (s : List ℕ) (n : ℕ) : Type 0 where
+  pub below : 0 < n → length s < longestBody code
   pub fits : length s < longestBody code → length s + n < longestBody code
   pub needs : (xs : List ℕ) (b : ℕ) → Plains xs → plain b ≡ true → length xs < n → bodyTurn code (s ++ xs) b ≡ more
 
 -- no byte at all
 ahead-none : (code : ℕ) (s : List ℕ) {n : ℕ} → n ≡ 0 → Ahead-done code s n
-ahead-none code s e = record { fits = λ h. omega arith; needs = λ xs b ps p h. absurd (omega arith) }
+ahead-none code s e = record { below = λ h. absurd (omega arith); fits = λ h. omega arith; needs = λ xs b ps p h. absurd (omega arith) }
 
 -- a turn of a fixed number of bytes, and one of a string, for which there is room
 fixed-goes : (n last : ℕ) → n < last → fixedTurn n last ≡ more
@@ -38,6 +40,7 @@ name-goes n b h p = rw (no-return b p, lt-ltb n 255 h)
 module _ (code last : ℕ) (turns : (s : List ℕ) (b : ℕ) → bodyTurn code s b ≡ fixedTurn (length s) last) (longest : longestBody code ≡ last + 1) where
   ahead-fixed : (s : List ℕ) {n : ℕ} → n ≡ last - length s → Ahead-done code s n
   ahead-fixed s {n} e = record {
+    below = λ h. rw longest (omega arith);
     fits = λ h. rw longest (omega (arith, rw longest at h));
     needs = λ xs b ps p h. let k = length-append s xs in turns (s ++ xs) b ∙ fixed-goes (length (s ++ xs)) last (omega arith);
   }
@@ -58,6 +61,7 @@ ahead-16 = ahead-fixed 0x16 13 (λ s b. refl) refl
 ahead-02 : (s : List ℕ) {n : ℕ} → n ≡ 255 - length s → Ahead-done 0x02 s n
 unfolding bodyTurn longestBody
 ahead-02 s {n} e = record {
+  below = λ h. omega arith;
   fits = λ h. omega arith;
   needs = λ xs b ps p h. let k = length-append s xs in string-goes (length (s ++ xs)) b (omega arith) p;
 }
@@ -66,6 +70,7 @@ ahead-02 s {n} e = record {
 ahead-08 : (s : List ℕ) {n : ℕ} → 2 ≤ length s → getD s 1 0 < 256 → n ≡ getD s 1 0 - (length s - 2) → Ahead-done 0x08 s n
 unfolding bodyTurn longestBody
 ahead-08 s {n} two byte e = record {
+  below = λ h. omega arith;
   fits = λ h. omega arith;
   needs = λ xs b ps p h.
       let k = length-append s xs in
@@ -77,6 +82,7 @@ ahead-08 s {n} two byte e = record {
 ahead-12 : (s : List ℕ) {n : ℕ} → 1 ≤ length s → (getD s 0 0 ≡ 0 → ⊥) → n ≡ 256 - length s → Ahead-done 0x12 s n
 unfolding bodyTurn longestBody
 ahead-12 s {n} some opens e = record {
+  below = λ h. omega arith;
   fits = λ h. omega arith;
   needs = λ xs b ps p h.
       let k = length-append s xs in
@@ -88,6 +94,7 @@ ahead-12 s {n} some opens e = record {
 ahead-block : (s : List ℕ) {n : ℕ} → n ≡ 16 - length s → length s < 16 → Ahead-done 0x14 s n
 unfolding bodyTurn longestBody
 ahead-block s {n} e short = record {
+  below = λ h. omega arith;
   fits = λ h. omega arith;
   needs = λ xs b ps p h. let k = length-append s xs in rw (lt-ltb (length (s ++ xs)) 16 (omega arith));
 }
@@ -106,6 +113,7 @@ not-ended l (x ∷ xs) (one p ps) h = rw append-assoc at (not-ended (l ++ (x ∷
 ahead-name : (s : List ℕ) {n : ℕ} → n ≡ 271 - length s → 16 ≤ length s → ended (drop 16 s) ≡ false → Ahead-done 0x14 s n
 unfolding bodyTurn longestBody
 ahead-name s {n} e long goes = record {
+  below = λ h. omega arith;
   fits = λ h. omega arith;
   needs = λ xs b ps p h.
       let k = length-append s xs in

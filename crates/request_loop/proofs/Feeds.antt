@@ -1,6 +1,6 @@
--- Feeding a slice: a chain of steps grows by one at its end; what `feed` promises on an answer and where the slice ends; a slice of one byte is a step.
+-- Feeding a slice: a chain of steps grows by one at its end; what `feed` promises on an answer and where the slice ends.
 use Prim.Native.Nat.{ℕ, _+_, _-_, _≤_, _<_}
-use mathlib.Core.Path.{_≡_, refl, sym, ap, _∙_}
+use mathlib.Core.Path.{_≡_, refl}
 use mathlib.Core.List.{List, [], _∷_, _++_, append-nil}
 use native.Mathlib.Numerals.{add-one}
 use native.Mathlib.Omega.{arith}
@@ -14,10 +14,9 @@ use Rattle.request_reader.specs.declared.Reader.{Reader}
 use Rattle.request_reader.specs.declared.Answer.{Answer}
 use Rattle.request_reader.specs.declared.Answer.the-variants.{More, Character, Request, Refused}
 use Rattle.request_reader.specs.declared.Stepped.{Stepped}
-use Rattle.request_loop.specs.declared.Fed.{Fed}
 use Rattle.request_reader.specs.View.{answerOf, Step-done}
 use Rattle.request_reader.specs.Read.{Read, stop, took}
-use Rattle.request_loop.specs.Feed.{lastOf, told, Feed-done}
+use Rattle.request_loop.specs.Feed.{lastOf, Feed-done}
 use Rattle.request_loop.specs.Pass.{passedFrom, Pass-done}
 
 -- one step at the end of a chain
@@ -81,45 +80,3 @@ module _ {r q : Reader} {lent left : List ℕ} (raw : List ℕ) (i : ℕ) (so-fa
         steps = rw append-nil so-far;
         ended = λ e. omega arith;
       }
-
--- a slice of one byte is a step: it is used, and its answer is the one told
-one-waited : (waits used : ℕ) (a : Answer) (left : List ℕ) → lastOf a left ≡ answerOf a left ∷ [] → used ≡ length (told waits a left) → used ≤ 1
-    → (used ≡ 1) × (told waits a left ≡ answerOf a left ∷ [])
-one-waited waits used a left e u h =
-    let n : used ≡ waits + 1 = u ∙ simp (e, length-append, length-replicate) in
-    let w : waits ≡ 0 = omega arith in
-    (omega arith, rw (e, w))
-
-one-told : (waits used : ℕ) (a : Answer) (left : List ℕ) → used ≡ length (told waits a left) → used ≤ 1 → (a ≡ More → used ≡ 1)
-    → (used ≡ 1) × (told waits a left ≡ answerOf a left ∷ [])
-one-told waits used More left u h e =
-    let n : used ≡ waits = u ∙ simp (append-nil, length-replicate) in
-    let w : waits ≡ 1 = omega (arith, e refl) in
-    (e refl, rw w)
-one-told waits used (Character b) left u h e = one-waited waits used (Character b) left refl u h
-one-told waits used (Request style code n) left u h e = one-waited waits used (Request style code n) left refl u h
-one-told waits used (Refused n) left u h e = one-waited waits used (Refused n) left refl u h
-
-refused-back : (a : Answer) (left : List ℕ) (n : ℕ) → answerOf a left ≡ rules.refusal n → a ≡ Refused n
-refused-back More left n e = let z : _≡_ {A = ℕ} 0 1 = cc in absurd (omega arith)
-refused-back (Character b) left n e = let z : _≡_ {A = ℕ} 0 1 = cc in absurd (omega arith)
-refused-back (Request style code k) left n e = let z : _≡_ {A = ℕ} 0 1 = cc in absurd (omega arith)
-refused-back (Refused k) left n e = cc
-
-one-read : {r q : Reader} {lent end : List ℕ} {x : ℕ} {gave : List rules.Answer} (a : Answer) → Read r lent (x ∷ []) gave q end → gave ≡ answerOf a end ∷ []
-    → Step-done r lent x (record { answer = a; reader = q }) end
-one-read {end = end} a (took {o = o} d stop) e =
-    let same : answerOf a end ≡ answerOf (o .answer) end = cc in
-    record {
-      answer = same ∙ d .answer;
-      next = d .next;
-      bytes = d .bytes;
-      carrier = d .carrier;
-      kept = d .kept;
-      stops = λ n h q. d .stops n h (refused-back (o .answer) end n (sym same ∙ ap (λ (b : Answer). answerOf b end) q));
-    }
-
-pub one-fed : {r : Reader} {lent left : List ℕ} {x : ℕ} {o : Fed} → Feed-done r lent (x ∷ []) o left → Step-done r lent x (record { answer = o .answer; reader = o .reader }) left
-one-fed {left = left} {o = o} d =
-    let p = one-told (d .waits) (o .used) (o .answer) left (d .used) (d .within) (d .ended) in
-    one-read (o .answer) (rw (p .0) at (d .steps)) (p .1)

@@ -77,6 +77,20 @@ passes-none r lent raw =
 
 -- a reader inside a request, within its limits and with no escape seen, is one in the middle of a body
 module _ (r : Reader) (inside : r .phase ≡ Inside) (ok : within r ≡ true) (shut : r .escape ≡ false) where
+  -- one plain byte
+  pub plain-step : (lent : List ℕ) (b most : ℕ) → Ahead-done (r .code) (take (r .count) lent) most → 0 < most → length lent ≡ 273 → plain b ≡ true
+      → Step-done r lent b (record { answer = More; reader = passedFrom r 1 }) (set lent (r .count) b)
+  plain-step lent b most a some whole p =
+      let top = longest-fits (r .code) in
+      let count = within-count r ok in
+      let s : length (take (r .count) lent) ≡ r .count = length-take-le (r .count) lent (omega arith) in
+      let fits = a .fits (omega arith) in
+      let turn : bodyTurn (r .code) (take (r .count) lent) b ≡ more = rw append-nil at (a .needs [] b none p (omega arith)) in
+      let here : r ≡ mid r (r .count) = rw (inside, shut) in
+      let there : passedFrom r 1 ≡ mid r (suc (r .count)) = rw (inside, shut, add-one (r .count)) in
+      subst (λ (q : Reader). Step-done q lent b (record { answer = More; reader = passedFrom r 1 }) (set lent (r .count) b)) (sym here)
+      (rw there (mid-step r ok (r .count) b lent (omega arith) (omega arith) turn p))
+
   pub passes-plain : {raw left : List ℕ} {n : ℕ} (lent : List ℕ) (most size : ℕ) → Ahead-done (r .code) (take (r .count) lent) most → size ≡ most → length lent ≡ 273
       → Plain-done raw (take size (drop (r .count) lent)) n left → Pass-done r lent raw n (take (r .count) lent ++ (left ++ drop size (drop (r .count) lent)))
   passes-plain {raw} {left} {n} lent most size a is whole d =

@@ -67,7 +67,7 @@ fn pass_body(reader: Reader, raw: &[u8], body: &mut [u8]) -> usize
     requires { ⌜ (reader .phase ≡ Inside) × (within reader ≡ true) × (reader .escape ≡ false) × (length (now body) ≡ 273) ⌝ }
     ensures { λ r. ⌜ Pass-done reader (now (body .entry)) (now (raw .entry)) r (now (body .exit)) ⌝ }
 {
-    let count = reader.count;
+    let count = reader.count as usize;
     let most = middles::ahead(reader.code, &body[..count]);
     let end = count + most;
     turns::copy_plain(raw, &mut body[count..end])
@@ -86,6 +86,6 @@ fn passed(reader: Reader, n: usize) -> Reader
         escape: reader.escape,
         style: reader.style,
         code: reader.code,
-        count: reader.count + n,
+        count: reader.count + n as u16,
     }
 }

@@ -30,7 +30,7 @@ pub struct Reader {
     pub escape: bool,
     pub style: u8,
     pub code: u8,
-    pub count: usize,
+    pub count: u16,
 }
 
 // What a raw byte gives: more is needed; a character; a finished request, whose body is the first `length` bytes of the lent body; or
@@ -38,7 +38,7 @@ pub struct Reader {
 pub enum Answer {
     More,
     Character(u8),
-    Request { style: u8, code: u8, length: usize },
+    Request { style: u8, code: u8, length: u16 },
     Refused(u8),
 }
 
@@ -107,7 +107,8 @@ impl Reader {
     {
         let carrier = self.carrier;
         if style_ok(carrier, self.style) {
-            return self.count < bodies::longest_body(self.code);
+            let count = self.count as usize;
+            return count < bodies::longest_body(self.code);
         }
         false
     }
@@ -170,15 +171,16 @@ impl Reader {
         let style = self.style;
         let code = self.code;
         let count = self.count;
-        let turn = bodies::body_turn(code, &body[..count], b);
+        let at = count as usize;
+        let turn = bodies::body_turn(code, &body[..at], b);
         match turn {
             Turn::Refused(n) => self.refused(n),
             Turn::More => {
-                body[count] = b;
+                body[at] = b;
                 self.going(false, style, code, count + 1)
             }
             Turn::Done => {
-                body[count] = b;
+                body[at] = b;
                 self.resting(
                     false,
                     Answer::Request {
@@ -228,7 +230,7 @@ impl Reader {
     }
 
     // More is needed inside a request.
-    fn going(self, seen: bool, style: u8, code: u8, count: usize) -> Stepped
+    fn going(self, seen: bool, style: u8, code: u8, count: u16) -> Stepped
         ensures { λ r. ⌜ r ≡ goingFrom self seen style code count ⌝ }
     {
         let carrier = self.carrier;

@@ -1,15 +1,15 @@
-// The library's exports but the chip's own, which are in `board`: the player and its text, the requests, the link and the replies. Answers
-// are numbers and records flat.
+// The library's exports but the chip's own, which are in `board`, and those that read one raw byte, which are in `steps`: the player and its
+// text, the requests, the link and the replies. Answers are numbers and records flat.
 ghost use mathlib.Core.Path.{_≡_};
 ghost use Rattle.script.specs.Script.{Play-done};
 ghost use Rattle.script_text.specs.Text.{Text-done};
 ghost use Rattle.strings.specs.Text.{nameOf};
 ghost use Rattle.flat.specs.Flat.{flatName};
-ghost use Rattle.flat_reader.specs.Readers.{freshReader, Flat-done};
+ghost use Rattle.flat_reader.specs.Readers.{freshReader};
 ghost use Rattle.flat_request.specs.Feeds.{Flat-feed-done};
 ghost use Rattle.flat_request_writer.specs.Calls.{callAt, Flat-request-done};
 ghost use Rattle.flat_kind.specs.Kinds.{kindAt, Flat-kind-done};
-ghost use Rattle.flat_link.specs.Links.{freshLink, Flat-step-done, Flat-begin-done};
+ghost use Rattle.flat_link.specs.Links.{freshLink, Flat-begin-done};
 ghost use Rattle.flat_link.specs.Runs.{Flat-run-done};
 ghost use Rattle.flat_reply.specs.Replies.{replyAt, Flat-reply-done, Flat-read-done};
 use chip::Chip;
@@ -19,8 +19,6 @@ use flat_kind::FlatKind;
 use flat_link::FlatBegun;
 use flat_link::FlatLink;
 use flat_link::FlatRan;
-use flat_link::FlatTold;
-use flat_reader::FlatRead;
 use flat_reader::FlatReader;
 use flat_reply::FlatGiven;
 use flat_request::FlatFed;
@@ -48,14 +46,6 @@ pub extern "C" fn tube_reader(carrier: u8) -> FlatReader
     ensures { λ r. ⌜ r ≡ freshReader carrier ⌝ }
 {
     flat_request::fresh(carrier)
-}
-
-// One raw byte: see `flat_request::read`.
-#[no_mangle]
-pub extern "C" fn tube_read(reader: FlatReader, raw: u8, body: &mut [u8; 273]) -> FlatRead
-    ensures { λ r. ⌜ Flat-done reader (now (body .entry)) raw r (now (body .exit)) ⌝ }
-{
-    flat_request::read(reader, raw, body)
 }
 
 // Raw bytes up to the first answer that is not need-more: see `flat_request::feed`.
@@ -121,36 +111,6 @@ pub extern "C" fn tube_run(
     ensures { λ r. ⌜ Flat-run-done link (now (reply .entry)) (now (own .entry)) (now (raw .entry)) (now (room .entry)) r (now (reply .exit)) (now (own .exit)) (now (room .exit)) ⌝ }
 {
     flat_link::run(link, raw, reply, own, room)
-}
-
-// One raw byte, as a slice: so `link_loop::run` stays the one caller of `Link::step`, and `tube_run` of it, which is what makes them fast
-// (docs/DECISIONS.md, 'Speed'). Where the loop wrote a note, that is the answer: the notes' kinds are the answers' own.
-#[no_mangle]
-pub extern "C" fn tube_link_step(
-    link: FlatLink,
-    raw: u8,
-    reply: &mut [u8; 257],
-    own: &mut [u8; 257],
-) -> FlatTold
-    ensures { λ r. ⌜ Flat-step-done link (now (reply .entry)) (now (own .entry)) raw r (now (reply .exit)) (now (own .exit)) ⌝ }
-{
-    let one = [raw];
-    let mut note = [0u8; 5];
-    let ran = tube_run(link, &one, reply, own, &mut note);
-    let told = ran.told;
-    if ran.noted == 0 {
-        return told;
-    }
-    let next = told.link;
-    FlatTold {
-        link: next,
-        length: 0,
-        kind: note[0],
-        first: note[1],
-        second: note[2],
-        third: note[3],
-        fourth: note[4],
-    }
 }
 
 // Writes a reply: see `flat_reply::write_reply`.

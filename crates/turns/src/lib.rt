@@ -55,7 +55,8 @@ pub fn copy_plain(raw: &[u8], out: &mut [u8]) -> usize
     i
 }
 
-fn is_plain(b: u8) -> bool
+// Whether a byte is neither an escape nor a return.
+pub fn is_plain(b: u8) -> bool
     ensures { λ r. ⌜ r ≡ plain b ⌝ }
 {
     if b == Piece::ESCAPE {

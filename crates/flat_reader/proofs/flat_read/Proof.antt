@@ -24,6 +24,9 @@ flat-requires-3 c κs = search needs
 enum-known-answer-3 : tie.Need-enum-known-answer-3
 enum-known-answer-3 c = search needs
 
+cast-t9 : tie.Need-cast-t9
+cast-t9 c = search needs
+
 returns : tie.Need-returns
 returns c = rw (c .before .enum-told .given .1) (c .flat .ensures)
 
@@ -47,6 +50,7 @@ flat-read-spec =
     enum-known-answer-2
     flat-requires-3
     enum-known-answer-3
+    cast-t9
     returns
     returns-2
     returns-3

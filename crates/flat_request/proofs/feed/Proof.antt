@@ -19,8 +19,8 @@ flat-answer-requires c κs = search needs
 
 returns : tie.Need-returns
 returns c =
-    let s = c .before .before .before in
-    read-slice (sym (s .before .before .has-tags .ensures) ∙ s .before .if1 .taken) (s .unflattened .ensures) (c .flat-answer .ensures) (c .before .feed .ensures)
+    let s = c .before .before .before .before in
+    read-slice (sym (s .before .before .has-tags .ensures) ∙ s .before .if1 .taken) (s .unflattened .ensures) (c .flat-answer .ensures) (c .before .before .feed .ensures)
 
 flat-read-requires : tie.Need-flat-read-requires
 flat-read-requires c κs = search needs

@@ -11,32 +11,32 @@ use Rattle.request_loop.proofs.pass_body.Statement.{statement}
 use Rattle.request_loop.proofs.pass_body.Tie as tie
 
 slice-reshare-prefix-ahead : tie.Need-slice-reshare-prefix-ahead
-slice-reshare-prefix-ahead c = let s = c .before .before in let room = within-room (s .args .reader) (s .pre .1) in search needs
+slice-reshare-prefix-ahead c = let s = c .before .before .before in let room = within-room (s .args .reader) (s .pre .1) in search needs
 
 slice-aggregate-ahead : tie.Need-slice-aggregate-ahead
 slice-aggregate-ahead c =
-    let s = c .before .before .before in
+    let s = c .before .before .before .before in
     let room = within-room (s .args .reader) (s .pre .1) in
     sym (length-take-le (s .args .reader .count) (now (s .args .body)) (omega arith))
 
 add-end : tie.Need-add-end
 add-end c =
-    let s = c .before .before .before .before in
-    let a = ahead-of (s .args .reader) (now (s .args .body)) (s .pre .1) (s .pre .3) (omega (arith, c .before .before .slice-known .given 1)) (c .ahead .ensures) in
+    let s = c .before .before .before .before .before in
+    let a = ahead-of (s .args .reader) (now (s .args .body)) (s .pre .1) (s .pre .3) (omega (arith, c .before .before .before .slice-known .given 1)) (c .ahead .ensures) in
     omega (arith, end-fits (s .args .reader) (now (s .args .body)) (c .ahead .result) (s .pre .1) (s .pre .3) a)
 
 part-copy-plain-end : tie.Need-part-copy-plain-end
 part-copy-plain-end c =
-    let s = c .before .before .before .before in
-    let a = ahead-of (s .args .reader) (now (s .args .body)) (s .pre .1) (s .pre .3) (omega (arith, c .before .before .slice-known .given 1)) (c .ahead .ensures) in
+    let s = c .before .before .before .before .before in
+    let a = ahead-of (s .args .reader) (now (s .args .body)) (s .pre .1) (s .pre .3) (omega (arith, c .before .before .before .slice-known .given 1)) (c .ahead .ensures) in
     omega (arith, s .pre .3, end-fits (s .args .reader) (now (s .args .body)) (c .ahead .result) (s .pre .1) (s .pre .3) a)
 
 returns : tie.Need-returns
 returns c =
     let q = c .before .before .before .before in
-    let s = q .before .before .before .before in
+    let s = q .before .before .before .before .before in
     let n = q .ahead .result in
-    let a = ahead-of (s .args .reader) (now (s .args .body)) (s .pre .1) (s .pre .3) (omega (arith, q .before .before .slice-known .given 1)) (q .ahead .ensures) in
+    let a = ahead-of (s .args .reader) (now (s .args .body)) (s .pre .1) (s .pre .3) (omega (arith, q .before .before .before .slice-known .given 1)) (q .ahead .ensures) in
     passes-plain (s .args .reader) (s .pre .0) (s .pre .1) (s .pre .2) (now (s .args .body)) n (s .args .reader .count + n - s .args .reader .count) a (omega arith) (s .pre .3)
     (c .before .before .copy-plain .ensures)
 
@@ -44,6 +44,7 @@ pub pass-body-spec : {M : Type 1} → statement M
 pass-body-spec =
     tie.close
     (tie.spec
+    (λ c. search needs)
     slice-reshare-prefix-ahead
     slice-aggregate-ahead
     (λ c κs. search needs)

@@ -6,8 +6,11 @@ use borrow.Author.Needs.{needs}
 use Rattle.request_loop.proofs.passed.Statement.{statement}
 use Rattle.request_loop.proofs.passed.Tie as tie
 
-add-t5 : tie.Need-add-t5
-add-t5 c = record { fits = sum-fits (2 ^ 64) 273 (c .before .args .reader .count) (c .before .args .n) (omega arith) (omega arith) (c .before .pre) }
+cast-t5 : tie.Need-cast-t5
+cast-t5 c = record { fits = omega (arith, sum-fits (2 ^ 16) 273 (c .args .reader .count) (c .args .n) (omega arith) (omega arith) (c .pre)) }
+
+add-t6 : tie.Need-add-t6
+add-t6 c = record { fits = sum-fits (2 ^ 16) 273 (c .before .args .reader .count) (c .before .args .n) (omega arith) (omega arith) (c .before .pre) }
 
 pub passed-spec : {M : Type 1} → statement M
-passed-spec = tie.close (tie.spec add-t5 (λ c. search needs))
+passed-spec = tie.close (tie.spec cast-t5 add-t6 (λ c. search needs))

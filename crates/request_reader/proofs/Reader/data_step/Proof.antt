@@ -10,6 +10,9 @@ use borrow.Author.Needs.{needs}
 use Rattle.request_reader.proofs.Reader.data_step.Statement.{statement}
 use Rattle.request_reader.proofs.Reader.data_step.Tie as tie
 
+cast-at : tie.Need-cast-at
+cast-at c = search needs
+
 slice-reshare-prefix-body-turn : tie.Need-slice-reshare-prefix-body-turn
 slice-reshare-prefix-body-turn c = let room = within-room (c .before .args .self) (c .before .pre .0) in search needs
 
@@ -46,8 +49,8 @@ enum-told-2 c = search needs
 slice-write-body-2 : tie.Need-slice-write-body-2
 slice-write-body-2 c = let s = c .before .before .before .before .before in let room = within-room (s .args .self) (s .pre .0) in search needs
 
-add-t15 : tie.Need-add-t15
-add-t15 c = let s = c .before .before .before .before .before in let room = within-room (s .args .self) (s .pre .0) in search needs
+add-t16 : tie.Need-add-t16
+add-t16 c = let s = c .before .before .before .before .before in let room = within-room (s .args .self) (s .pre .0) in search needs
 
 resting-requires : tie.Need-resting-requires
 resting-requires c κs = search needs
@@ -88,6 +91,7 @@ pub data-step-spec : {M : Type 1} → statement M
 data-step-spec =
     tie.close
     (tie.spec
+    cast-at
     slice-reshare-prefix-body-turn
     slice-aggregate-body-turn
     body-turn-requires
@@ -99,7 +103,7 @@ data-step-spec =
     going-requires
     enum-told-2
     slice-write-body-2
-    add-t15
+    add-t16
     resting-requires
     same-length
     returns

@@ -1,0 +1,28 @@
+-- A raw byte in the middle of a field, as the flat record and the lent body show it.
+use Prim.Native.Nat.{ℕ, _+_, _<_}
+use mathlib.Core.Path.{_≡_}
+use mathlib.Core.Bool.{Bool, true, false, cond}
+use mathlib.Core.List.{List}
+use lib.Dec.{eqb, leb}
+use lib.ListN.{length, getD, take}
+use Rattle.turns.specs.Plain.{plain}
+use Rattle.middles.specs.Ahead.{aheadIn}
+use Rattle.flat_reader.specs.declared.FlatReader.{FlatReader}
+
+-- the styles of a carrier by its number; one out of range has none
+abbrev pub styled : ℕ → ℕ → Bool
+styled carrier style = cond (eqb carrier 0) (leb style 3) (cond (eqb carrier 1) (eqb style 0) false)
+
+-- inside a request, its style and its place within the limits, no escape seen, and a plain byte with more to come in its field
+pub record In-field (f : FlatReader) (lent : List ℕ) (raw : ℕ) : Type 0 where
+  pub inside : f .phase ≡ 1
+  pub shut : f .escape ≡ 0
+  pub style : styled (f .carrier) (f .style) ≡ true
+  pub byte : plain raw ≡ true
+  pub place : f .count < length lent
+  pub second : getD lent 1 0 < 256
+  pub ahead : 0 < aheadIn (f .code) (take (f .count) lent)
+
+-- the record after one more byte
+abbrev pub placedNext : FlatReader → FlatReader
+placedNext f = record { count = f .count + 1; carrier = f .carrier; phase = f .phase; escape = f .escape; style = f .style; code = f .code }
