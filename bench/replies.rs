@@ -235,7 +235,7 @@ fn read_bytes<T>(
     lent: &mut Lent,
     link: &mut T,
     begin: impl Fn(&mut T, u8, u8) -> bool,
-    step: impl Fn(&mut T, u8, &mut Lent) -> Option<(u8, u64)>,
+    step: impl Fn(&mut T, u8, &mut Lent) -> Option<(u32, u64)>,
 ) -> u64 {
     let mut checksum = 0;
     let mut rest = talk.stream.iter();

@@ -291,7 +291,7 @@ enum {
 typedef struct {
     TubeLink link; /* for the next byte */
     size_t length;
-    uint8_t kind;
+    uint32_t kind;
     uint8_t first;
     uint8_t second;
     uint8_t third;

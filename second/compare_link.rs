@@ -67,9 +67,9 @@ impl TubeTold {
 }
 
 /// The kind, values and length of the second program's answer.
-fn numbers(told: Told) -> (u8, [u8; 4], usize) {
+fn numbers(told: Told) -> (u32, [u8; 4], usize) {
     if let Some([kind, values @ ..]) = told.note() {
-        return (kind, values, 0);
+        return (kind as u32, values, 0);
     }
     match told {
         Told::Reply(length) => (REPLY, [0; 4], length),
@@ -519,7 +519,7 @@ impl Seen {
     fn run_end(&mut self, told: Told, notes: &[u8], room: usize) {
         let (kind, [first, ..], _) = numbers(told);
         let end = match kind {
-            REFUSED => kind + first,
+            REFUSED => kind + first as u32,
             _ => kind,
         };
         self.run_ends[end as usize] += 1;
@@ -668,7 +668,7 @@ impl Seen {
     }
 
     fn few_runs(&self) -> Option<String> {
-        const ENDS: [u8; 9] = [
+        const ENDS: [u32; 9] = [
             NEED_MORE,
             REPLY,
             interface::ERROR,

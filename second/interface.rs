@@ -83,7 +83,7 @@ pub const LINK_STOPPED: u8 = 2;
 pub struct TubeTold {
     pub link: TubeLink,
     pub length: usize,
-    pub kind: u8,
+    pub kind: u32,
     pub first: u8,
     pub second: u8,
     pub third: u8,
@@ -91,11 +91,11 @@ pub struct TubeTold {
 }
 
 // The kinds that the loop stops with; 1 to 4 are those of its notes.
-pub const NEED_MORE: u8 = 0;
-pub const REPLY: u8 = 5;
-pub const ERROR: u8 = 6;
-pub const RESTART: u8 = 7;
-pub const REFUSED: u8 = 8;
+pub const NEED_MORE: u32 = 0;
+pub const REPLY: u32 = 5;
+pub const ERROR: u32 = 6;
+pub const RESTART: u32 = 7;
+pub const REFUSED: u32 = 8;
 
 /// Kind 0 waits, 1 complete, 2 refused.
 #[repr(C)]

@@ -55,7 +55,7 @@ static void layout(void) {
     expect("layout of the link", sizeof(TubeLink) == 8 && AT(TubeLink, got, 0) && AT(TubeLink, held, 2) && AT(TubeLink, wait, 4)
                                      && AT(TubeLink, out_length, 5) && AT(TubeLink, action, 6) && AT(TubeLink, flags, 7)
                                      && sizeof(TubeTold) == 24 && AT(TubeTold, link, 0) && AT(TubeTold, length, 8) && AT(TubeTold, kind, 16)
-                                     && AT(TubeTold, first, 17) && AT(TubeTold, second, 18) && AT(TubeTold, third, 19) && AT(TubeTold, fourth, 20)
+                                     && AT(TubeTold, first, 20) && AT(TubeTold, second, 21) && AT(TubeTold, third, 22) && AT(TubeTold, fourth, 23)
                                      && sizeof(TubeBegun) == 10 && AT(TubeBegun, link, 0) && AT(TubeBegun, kind, 8) && AT(TubeBegun, answer, 9)
                                      && sizeof(TubeRan) == 40 && AT(TubeRan, told, 0) && AT(TubeRan, used, 24) && AT(TubeRan, noted, 32));
     expect("layout of a reply read", sizeof(TubeGiven) == 40 && AT(TubeGiven, block_start, 0) && AT(TubeGiven, block_length, 8)

@@ -5,7 +5,10 @@ ghost use mathlib.Core.Bool.{true};
 ghost use Rattle.link.specs.View.{begunOf};
 ghost use Rattle.flat_link.specs.Links.{waitAt, doingAt, linkOf, tagsOk, freshLink, waitNumber, waitOut, doingNumber, flagsNumber, flatOf, toldWith, flatTold, flatBegun, Flat-begin-done, Flat-step-done};
 ghost use Rattle.flat_link.specs.Runs.{flatRan, flatUnknown, ranWith, Flat-run-done};
-ghost use Rattle.flat_link.specs.Field.{placedNext, In-field};
+ghost use Rattle.flat_link.specs.Field.{Reply-byte, turnIn, placedNext, placedIdle};
+ghost use Rattle.serial_rules.specs.Body.{refused};
+ghost use Rattle.turns.specs.Turns.{turnOf};
+use escape::Piece;
 use flat_kind::FlatKind;
 use link::Action;
 use link::Answer;
@@ -14,6 +17,7 @@ use link::Doing;
 use link::Link;
 use link::Wait;
 use link_loop::Ran;
+use turns::Turn;
 
 // A link. `got` bytes of the reply and `held` bytes of the open action came so far. `wait` is 0 where the link is idle, else one more than the
 // number of the call that waits, OSWORD with its `out_length`; `action` is 0 where none is open, 1 for an error, 2 for an event, 3 for an
@@ -31,12 +35,13 @@ pub struct FlatLink {
 
 // What a raw byte gives: kind 0 needs more; 1 is a character (first); 2 the Escape state (first, 0 or 1); 3 an event (Y, X, A); 4 an address
 // (first to fourth, high byte first); 5 a finished reply (length); 6 an error (first is its number, length that of its text, which stands in the
-// other lent bytes from the second on); 7 a restart; 8 a refusal (first is its number). What is not named is 0.
+// other lent bytes from the second on); 7 a restart; 8 a refusal (first is its number). What is not named is 0. It is three words without
+// padding, so that it can be copied word by word.
 #[repr(C)]
 pub struct FlatTold {
     pub link: FlatLink,
     pub length: usize,
-    pub kind: u8,
+    pub kind: u32,
     pub first: u8,
     pub second: u8,
     pub third: u8,
@@ -88,17 +93,43 @@ pub fn begin(link: FlatLink, call: u8, out_length: u8) -> FlatBegun
     flat_begun(link, Begun::Denied(7))
 }
 
-// One raw byte: see `link::Link::step`. A plain byte in the middle of a reply is stored on the record as it is, with no way to the link's enums
-// and back.
+// One raw byte: see `link::Link::step`.
 pub fn step(link: FlatLink, raw: u8, reply: &mut [u8; 257], own: &mut [u8; 257]) -> FlatTold
     ensures { λ r. ⌜ Flat-step-done link (now (reply .entry)) (now (own .entry)) raw r (now (reply .exit)) (now (own .exit)) ⌝ }
 {
-    if in_field(link, raw) {
-        // As a slice, whose length the proof knows.
-        let lent: &mut [u8] = reply;
-        lent[link.got as usize] = raw;
-        return told(next_place(link), 0, 0, 0);
+    if is_reply_byte(link, raw) {
+        return step_reply(link, raw, reply, own);
     }
+    step_unflattened(link, raw, reply, own)
+}
+
+// A byte of the reply is stored on the record as it is, unless it is refused.
+fn step_reply(link: FlatLink, raw: u8, reply: &mut [u8; 257], own: &mut [u8; 257]) -> FlatTold
+    requires { ⌜ Reply-byte link raw ⌝ }
+    ensures { λ r. ⌜ Flat-step-done link (now (reply .entry)) (now (own .entry)) raw r (now (reply .exit)) (now (own .exit)) ⌝ }
+{
+    let at = link.got as usize;
+    let turn = reply_turn(link, raw);
+    match turn {
+        Turn::More => {
+            // As a slice, whose length the proof knows.
+            let lent: &mut [u8] = reply;
+            lent[at] = raw;
+            told(next_place(link), 0, 0, 0)
+        }
+        Turn::Done => {
+            let lent: &mut [u8] = reply;
+            lent[at] = raw;
+            told(idle(link), 5, 0, at + 1)
+        }
+        Turn::Refused(_) => step_unflattened(link, raw, reply, own),
+    }
+}
+
+// Any byte, by way of the link's enums and back. It has two callers, so that the compiler leaves it apart and theirs short.
+fn step_unflattened(link: FlatLink, raw: u8, reply: &mut [u8; 257], own: &mut [u8; 257]) -> FlatTold
+    ensures { λ r. ⌜ Flat-step-done link (now (reply .entry)) (now (own .entry)) raw r (now (reply .exit)) (now (own .exit)) ⌝ }
+{
     if has_tags(link) {
         let stepped = unflattened(link).step(raw, reply, own);
         let answer = stepped.answer;
@@ -108,17 +139,11 @@ pub fn step(link: FlatLink, raw: u8, reply: &mut [u8; 257], own: &mut [u8; 257])
     flat_told(link, Answer::Refused(7))
 }
 
-// Whether a raw byte is a plain one in the middle of the reply that a call waits for: no action is open, no escape seen.
-fn in_field(link: FlatLink, raw: u8) -> bool
-    ensures { λ r. ⌜ (r ≡ true → In-field link raw) ⌝ }
+// Whether a raw byte is one of the reply that a call waits for: no action is open, no escape seen.
+fn is_reply_byte(link: FlatLink, raw: u8) -> bool
+    ensures { λ r. ⌜ (r ≡ true → Reply-byte link raw) ⌝ }
 {
-    if link.flags != 0 {
-        return false;
-    }
-    if link.action != 0 {
-        return false;
-    }
-    if link.held != 0 {
+    if raw == Piece::ESCAPE {
         return false;
     }
     if link.wait == 0 {
@@ -127,16 +152,29 @@ fn in_field(link: FlatLink, raw: u8) -> bool
     if 13 < link.wait {
         return false;
     }
-    if !turns::is_plain(raw) {
+    if link.flags != 0 {
         return false;
     }
-    let ahead = flat_kind::kind_at(link.wait - 1, link.out_length)
-        .shape()
-        .ahead(link.got as usize);
-    0 < ahead
+    if link.action != 0 {
+        return false;
+    }
+    link.held == 0
 }
 
-// The record after one more byte of the reply.
+// What the byte does to the reply; refused where the record is over its limits.
+fn reply_turn(link: FlatLink, raw: u8) -> Turn
+    requires { ⌜ Reply-byte link raw ⌝ }
+    ensures { λ r. ⌜ (turnOf r ≡ turnIn link raw) × ((turnOf r ≡ refused 7 → ⊥) → link .got < 257) ⌝ }
+{
+    let at = link.got as usize;
+    let shape = flat_kind::kind_at(link.wait - 1, link.out_length).shape();
+    if at < shape.longest() {
+        return shape.turn(at, raw);
+    }
+    Turn::Refused(7)
+}
+
+// The record after one more byte of the reply, and after its last.
 fn next_place(link: FlatLink) -> FlatLink
     requires { ⌜ link .got < 257 ⌝ }
     ensures { λ r. ⌜ r ≡ placedNext link ⌝ }
@@ -148,6 +186,19 @@ fn next_place(link: FlatLink) -> FlatLink
         out_length: link.out_length,
         action: link.action,
         flags: link.flags,
+    }
+}
+
+fn idle(link: FlatLink) -> FlatLink
+    ensures { λ r. ⌜ r ≡ placedIdle link ⌝ }
+{
+    FlatLink {
+        got: 0,
+        held: 0,
+        wait: 0,
+        out_length: link.out_length,
+        action: 0,
+        flags: 0,
     }
 }
 
@@ -240,7 +291,7 @@ fn flat_told(link: FlatLink, answer: Answer) -> FlatTold
     }
 }
 
-fn told(link: FlatLink, kind: u8, first: u8, length: usize) -> FlatTold
+fn told(link: FlatLink, kind: u32, first: u8, length: usize) -> FlatTold
     ensures { λ r. ⌜ r ≡ toldWith link kind first length ⌝ }
 {
     FlatTold {

@@ -30,15 +30,31 @@ pub fn fresh(carrier: u8) -> FlatReader
     }
 }
 
-// One raw byte: see `request_reader::Reader::step`. A plain byte in the middle of a field is stored on the record as it is, with no way to the
-// reader's enums and back.
+// One raw byte: see `request_reader::Reader::step`.
 pub fn read(reader: FlatReader, raw: u8, body: &mut [u8; 273]) -> FlatRead
+    ensures { λ r. ⌜ Flat-done reader (now (body .entry)) raw r (now (body .exit)) ⌝ }
+{
+    if reader.phase == 1 {
+        return read_inside(reader, raw, body);
+    }
+    read_unflattened(reader, raw, body)
+}
+
+// A plain byte in the middle of a field is stored on the record as it is.
+fn read_inside(reader: FlatReader, raw: u8, body: &mut [u8; 273]) -> FlatRead
     ensures { λ r. ⌜ Flat-done reader (now (body .entry)) raw r (now (body .exit)) ⌝ }
 {
     if in_field(reader, raw, body) {
         body[reader.count as usize] = raw;
         return flat_reader::flat_read(next_place(reader), Answer::More);
     }
+    read_unflattened(reader, raw, body)
+}
+
+// Any byte, by way of the reader's enums and back. It has two callers, so that the compiler leaves it apart and theirs short.
+fn read_unflattened(reader: FlatReader, raw: u8, body: &mut [u8; 273]) -> FlatRead
+    ensures { λ r. ⌜ Flat-done reader (now (body .entry)) raw r (now (body .exit)) ⌝ }
+{
     if flat_reader::has_tags(reader) {
         let stepped = flat_reader::unflattened(reader).step(raw, body);
         let answer = stepped.answer;

@@ -18,7 +18,7 @@ use Rattle.turns.proofs.Plain.{no-escape, done-plains, done-most, part-sets}
 use Rattle.kind.specs.Kinds.{kindFor}
 use Rattle.shapes.specs.Ahead.{aheadOf}
 use Rattle.kind.specs.declared.CallKind.{CallKind}
-use Rattle.shapes.proofs.Ahead.{ahead-more, ahead-fits, ahead-below}
+use Rattle.shapes.proofs.Ahead.{ahead-more, ahead-fits}
 use Rattle.link.specs.declared.Wait.{Wait}
 use Rattle.link.specs.declared.Wait.the-variants.{Waiting}
 use Rattle.link.specs.declared.Doing.{Doing}
@@ -39,7 +39,7 @@ data-in-itself b h = rw (no-escape b h)
 abbrev pub mid : CallKind → ℕ → Link
 mid k g = record { wait = Waiting k; got = g; escape = false; doing = Quiet; held = 0; stopped = false }
 
-mid-usable : (k : CallKind) (g : ℕ) → g < longest (shapeOf (kindFor k)) → usableOf (mid k g) ≡ true
+pub mid-usable : (k : CallKind) (g : ℕ) → g < longest (shapeOf (kindFor k)) → usableOf (mid k g) ≡ true
 unfolding usableOf
 mid-usable k g h = simp (lt-ltb g (longest (shapeOf (kindFor k))) h)
 
@@ -51,11 +51,6 @@ mid-step k n i g b reply own e h below room p =
     let same : mid k (g + 1) ≡ mid k (suc g) = rw (add-one g) in
     at-data (mid k g) reply own b (mid-usable k g below) (data-in-itself b p)
     (data-outside (mid k g) reply own b refl (reply-more (mid k g) reply b refl room (rw e turn) (rw same)))
-
--- one byte in the middle is a step by itself
-pub plain-step : (k : CallKind) (g b : ℕ) (reply own : List ℕ) → 0 < aheadOf (shapeOf (kindFor k)) g → g < length reply → plain b ≡ true
-    → Step-done (mid k g) reply own b (record { answer = variant.More; link = mid k (suc g) }) (set reply g b) own
-plain-step k g b reply own h room p = mid-step k g 0 g b reply own (omega arith) h (ahead-below (shapeOf (kindFor k)) g h) room p
 
 mid-steps : (k : CallKind) (n : ℕ) (xs : List ℕ) (i g : ℕ) (reply own : List ℕ) → Plains xs → g ≡ n + i → n < longest (shapeOf (kindFor k))
     → i + length xs ≤ aheadOf (shapeOf (kindFor k)) n → g + length xs ≤ length reply

@@ -179,15 +179,16 @@ withoutActions (error n t ∷ ps) = error n t ∷ withoutActions ps
 abbrev pub rest : Layer
 rest = link.layer false link.none
 
--- What the customers buy. On a stream with Escape states, events and addresses anywhere between its data bytes, errors and begun calls, a
--- link tells what it tells without them, at the same data byte, and each of them in its place; and it is left as without them.
+-- "The Escape state, event and address actions leave the waiting reply at its place." On a stream with such actions anywhere between its data
+-- bytes, errors and begun calls, a link tells what it tells without them, at the same data byte, and each of them in its place; and it is left
+-- as without them.
 pub record Actions-pass (f : Frame) (ps : List Part) : Type 0 where
   pub told : tells (live rest f) (inputs ps) ≡ spread ps (woven (map signOf ps) (says (holds f) (map signOf (withoutActions ps))))
   pub plain : tells (live rest f) (inputs (withoutActions ps)) ≡ spread (withoutActions ps) (says (holds f) (map signOf (withoutActions ps)))
   pub left : linkAfter (live rest f) (inputs ps) ≡ linkAfter (live rest f) (inputs (withoutActions ps))
 
--- With an error or restart in the stream the link tells it at its last byte, and goes on as a fresh one: the call that waited is ended,
--- and no byte behind is taken for its reply.
+-- "An error ends the waiting call with that error": with an error or restart in the stream the link tells it at its last byte, and goes on as
+-- a fresh one, so that no byte behind is taken for the reply.
 pub record Error-ends (f : Frame) (ps : List Part) (n : ℕ) (t : List ℕ) (qs : List Part) : Type 0 where
   pub told : tells (live rest f) (inputs (ps ++ (error n t ∷ qs)))
       ≡ tells (live rest f) (inputs ps) ++ (fill (report needMore) (behind (inputsOf (error n t))) ++ (report (failure n t) ∷ tells fresh (inputs qs)))

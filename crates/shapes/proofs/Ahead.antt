@@ -36,9 +36,3 @@ ahead-fits line n h = go (eqb n 0)
     go true = omega arith
     go false = omega arith
 ahead-fits text n h = omega arith
-
--- where there are some ahead, there is room for the first of them
-pub ahead-below : (s : Shape) (n : ℕ) → 0 < aheadOf s n → n < longest s
-ahead-below (fixed k) n h = omega arith
-ahead-below line n h = let q = line-begun n 0 h in let m = q .1 in omega arith
-ahead-below text n h = absurd (omega arith)

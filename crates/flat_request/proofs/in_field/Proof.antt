@@ -20,8 +20,8 @@ returns-6 c e =
     let p = q .before .before .before .before in
     let s = p .before .before .before in
     record {
-      inside = p .before .if1 .left;
-      shut = q .before .before .before .if2 .left;
+      inside = omega (arith, p .before .if1 .left);
+      shut = omega (arith, q .before .before .before .if2 .left);
       style = sym (q .before .before .has-style .ensures) ∙ not-false _ (q .before .if3 .left);
       byte = sym (q .is-plain .ensures) ∙ not-false _ (c .before .before .before .before .if4 .left);
       place = omega arith;
