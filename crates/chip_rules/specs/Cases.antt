@@ -53,15 +53,15 @@ abbrev gets : Access → ℕ → ℕ → ℕ → Row
 gets a n b l = record { access = a; answer = n; byte = b; lines = l }
 
 -- flags by the names of those that are set
-abbrev flagsOf : Bool → Bool → Bool → Bool → Bool → Bool → Flags
-flagsOf p v m j i q = record { p = p; v = v; m = m; j = j; i = i; q = q }
+abbrev sixFlags : Bool → Bool → Bool → Bool → Bool → Bool → Flags
+sixFlags p v m j i q = record { p = p; v = v; m = m; j = j; i = i; q = q }
 
 -- every channel empty but those written down
 abbrev with : Flags → List Channel → State
 with f l = record { channels = l; flags = f }
 
 abbrev onlyV : Flags
-onlyV = flagsOf false true false false false false
+onlyV = sixFlags false true false false false false
 
 -- C1 fresh host R1 status &40.
 abbrev pub c1 : Case
@@ -159,7 +159,7 @@ c8 =
           ∷ gets (parasiteWrites 7 8) 0 0 0
           ∷ gets (hostWrites 0 0xC3) 0 0 0
           ∷ [];
-      end = with (flagsOf false false false false true true) ([] ∷ [] ∷ [] ∷ [] ∷ [] ∷ [] ∷ [] ∷ [] ∷ []);
+      end = with (sixFlags false false false false true true) ([] ∷ [] ∷ [] ∷ [] ∷ [] ∷ [] ∷ [] ∷ [] ∷ []);
     }
 
 unfoldable pub cases : List Case
@@ -170,7 +170,7 @@ abbrev hostInterrupt : Case
 hostInterrupt =
     record {
       rows = gets (hostWrites 0 0x81) 0 0 0 ∷ gets (parasiteWrites 7 0x2A) 0 0 1 ∷ gets (hostReads 7) 0 42 0 ∷ [];
-      end = with (flagsOf false false false false false true) emptied;
+      end = with (sixFlags false false false false false true) emptied;
     }
 
 -- Parasite IRQ by I and R1 alone, then by J and R4 alone.
@@ -185,7 +185,7 @@ parasiteInterrupt =
           ∷ gets (hostWrites 0 0x84) 0 0 2
           ∷ gets (parasiteReads 7) 0 9 0
           ∷ [];
-      end = with (flagsOf false false false true false false) (set emptied (fed host R1) (8 ∷ []));
+      end = with (sixFlags false false false true false false) (set emptied (fed host R1) (8 ∷ []));
     }
 
 -- Parasite NMI by M and N, and parasite reset by P: with V clear one byte asserts NMI, with V set two.
@@ -199,7 +199,7 @@ parasiteOthers =
           ∷ gets (hostWrites 5 2) 0 0 12
           ∷ gets (hostWrites 0 0x08) 0 0 8
           ∷ [];
-      end = with (flagsOf true true false false false false) (set emptied (fed host R3) (1 ∷ 2 ∷ []));
+      end = with (sixFlags true true false false false false) (set emptied (fed host R3) (1 ∷ 2 ∷ []));
     }
 
 -- Bit 6 of a control byte alone does nothing, and no other status write changes anything.
