@@ -1,4 +1,5 @@
--- A byte of the reply that a call waits for, as the flat record shows it.
+-- A byte of the reply that a call waits for, as the flat record shows it: what the private functions of `step` promise, which no public
+-- contract names.
 use Prim.Native.Nat.{ℕ, _+_, _-_, _≤_, _<_}
 use mathlib.Core.Path.{_≡_}
 use mathlib.Core.Bool.{false, cond}

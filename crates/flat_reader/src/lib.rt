@@ -7,8 +7,8 @@ use request_reader::Phase;
 use request_reader::Reader;
 
 // A request reader with numbers for its enums: carrier 0 serial, 1 parallel; phase 0 outside a request, 1 inside, 2 stopped; an
-// escape was seen where its number is not 0. A number out of range makes a reader that counts as stopped. It has at most eight bytes, so
-// that it crosses to C in one register.
+// escape was seen where its number is not 0. A number out of range makes a reader that counts as stopped. It has eight bytes, the
+// last of them padding, so that it crosses to C in one register.
 #[repr(C)]
 pub struct FlatReader {
     pub count: u16,

@@ -1,15 +1,16 @@
 -- A plain byte in the middle of a field is a step that needs more, on the flat record as it is.
 use Prim.Native.Nat.{ℕ, _≤_, _<_}
 use native.Mathlib.Omega.{arith}
-use mathlib.Core.Path.{_≡_, refl, sym, subst}
-use mathlib.Core.Bool.{Bool, true, false, true≢false}
+use mathlib.Core.Path.{_≡_, refl, subst}
+use mathlib.Core.Bool.{true}
 use mathlib.Core.List.{List}
-use lib.Dec.{eqb, leb}
+use lib.Dec.{leb}
 use lib.ListN.{length, getD, take, set}
 use lib.Seq.{length-take-le, getD-take}
-use borrow.Author.Tests.{eqb-true, lt-ltb}
+use borrow.Author.Tests.{lt-ltb}
 use Rattle.serial_rules.specs.Call.{styleOk}
 use Rattle.serial_rules.specs.Body.{longestBody}
+use Rattle.serial_rules.proofs.Trip.{and-both}
 use Rattle.middles.specs.Ahead.{aheadIn}
 use Rattle.middles.proofs.Middle.{ahead-holds}
 use Rattle.request_reader.specs.declared.Answer.the-variants.{More}
@@ -18,25 +19,16 @@ use Rattle.request_loop.proofs.Plains.{plain-step}
 use Rattle.flat_reader.specs.declared.FlatReader.{FlatReader}
 use Rattle.flat_reader.specs.declared.FlatRead.{FlatRead}
 use Rattle.flat_reader.specs.Readers.{carrierAt, readerOf, tagsOk, flatRead, Flat-done}
-use Rattle.flat_request.specs.Field.{styled, In-field, placedNext}
+use Rattle.flat_request.specs.Field.{In-field, placedNext}
 use Rattle.flat_request.proofs.Readers.{own, step-flat}
 
--- a carrier's number with a style of its own is in range
-styled-is : (carrier style : ℕ) → styled carrier style ≡ true → (leb carrier 1 ≡ true) × (styleOk (carrierOf (carrierAt carrier)) style ≡ true)
-styled-is carrier style h = zeroth (eqb carrier 0) refl
-  where
-    first : (t : Bool) → eqb carrier 0 ≡ false → eqb carrier 1 ≡ t → (leb carrier 1 ≡ true) × (styleOk (carrierOf (carrierAt carrier)) style ≡ true)
-    first true z e = let n = eqb-true carrier 1 e in (rw n, rw n (rw (z, e) at h))
-    first false z e = absurd (true≢false (sym (rw (z, e) at h)))
-
-    zeroth : (t : Bool) → eqb carrier 0 ≡ t → (leb carrier 1 ≡ true) × (styleOk (carrierOf (carrierAt carrier)) style ≡ true)
-    zeroth true e = let n = eqb-true carrier 0 e in (rw n, rw n (rw e at h))
-    zeroth false e = first (eqb carrier 1) e refl
-
 module _ {f : FlatReader} {lent : List ℕ} {raw : ℕ} (d : In-field f lent raw) where
+  styles : (leb (f .carrier) 1 ≡ true) × (styleOk (carrierOf (carrierAt (f .carrier))) (f .style) ≡ true)
+  styles = and-both (leb (f .carrier) 1) (styleOk (carrierOf (carrierAt (f .carrier))) (f .style)) (d .style)
+
   tagged : tagsOk f ≡ true
   unfolding tagsOk
-  tagged = rw (d .inside) (simp (styled-is (f .carrier) (f .style) (d .style) .0))
+  tagged = rw (d .inside) (simp (styles .0))
 
   -- the bytes so far, and that the count is below the limits
   held : length (take (f .count) lent) ≡ f .count
@@ -50,7 +42,7 @@ module _ {f : FlatReader} {lent : List ℕ} {raw : ℕ} (d : In-field f lent raw
   limited =
       let a = ahead-holds (f .code) (take (f .count) lent) byte in
       let low : f .count < longestBody (f .code) = omega (arith, held, a .below (d .ahead)) in
-      simp (styled-is (f .carrier) (f .style) (d .style) .1, lt-ltb (f .count) (longestBody (f .code)) low)
+      simp (styles .1, lt-ltb (f .count) (longestBody (f .code)) low)
 
   pub field-read : {g : FlatReader} {o : FlatRead} → length lent ≡ 273 → g ≡ placedNext f → o ≡ flatRead g More → Flat-done f lent raw o (set lent (f .count) raw)
   unfolding tagsOk

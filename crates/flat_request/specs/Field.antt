@@ -1,17 +1,21 @@
--- A raw byte in the middle of a field, as the flat record and the lent body show it.
+-- A raw byte in the middle of a field, as the flat record and the lent body show it: what the private functions of `read` promise, which no
+-- public contract names.
 use Prim.Native.Nat.{ℕ, _+_, _<_}
 use mathlib.Core.Path.{_≡_}
-use mathlib.Core.Bool.{Bool, true, false, cond}
+use mathlib.Core.Bool.{Bool, true, _&&_}
 use mathlib.Core.List.{List}
-use lib.Dec.{eqb, leb}
+use lib.Dec.{leb}
 use lib.ListN.{length, getD, take}
+use Rattle.serial_rules.specs.Call.{styleOk}
 use Rattle.turns.specs.Plain.{plain}
 use Rattle.middles.specs.Ahead.{aheadIn}
+use Rattle.request_reader.specs.View.{carrierOf}
 use Rattle.flat_reader.specs.declared.FlatReader.{FlatReader}
+use Rattle.flat_reader.specs.Readers.{carrierAt}
 
--- the styles of a carrier by its number; one out of range has none
+-- the carrier's number is in range, and the style one of its own
 abbrev pub styled : ℕ → ℕ → Bool
-styled carrier style = cond (eqb carrier 0) (leb style 3) (cond (eqb carrier 1) (eqb style 0) false)
+styled carrier style = leb carrier 1 && styleOk (carrierOf (carrierAt carrier)) style
 
 -- inside a request, its style and its place within the limits, no escape seen, and a plain byte with more to come in its field
 pub record In-field (f : FlatReader) (lent : List ℕ) (raw : ℕ) : Type 0 where
