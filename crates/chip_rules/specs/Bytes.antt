@@ -60,11 +60,11 @@ module _ {K : Type 0} where
   empties v wasReset = true
   empties v (accessed a) = eqb (says v a .answer) 0 && isClear (a .side) (decode a)
 
--- "held at the start, then taken, equal removed, then held": l is the ledger and h what the channel holds at the end
+-- Held at the start, then taken, equal removed, then held: l is the ledger and h what the channel holds at the end
 abbrev pub InOrder : Ledger → Channel → Type 0
 InOrder l h = l .start ++ l .taken ≡ l .removed ++ h
 
--- "since the last reset or clear the bytes removed, then those held, are the bytes taken, in order"
+-- since the last reset or clear the bytes removed, then those held, are the bytes taken, in order (the customer's demand 2)
 pub record Since (l : Ledger) (h : Channel) : Type 0 where
   pub start : l .start ≡ []
   pub order : l .taken ≡ l .removed ++ h
@@ -78,7 +78,7 @@ abbrev pub roomFor : {K : Type 0} → View K → Access → Bool
 roomFor (sound s) a = room (s .flags) (fed (a .side) (decode a .register)) (held (chan s (fed (a .side) (decode a .register))))
 roomFor (broken k) a = false
 
--- "a data write not refused with 1 is taken exactly when there is room", which bit 6 of the status said beforehand
+-- a data write not refused with 1 is taken exactly when there is room (the customer's demand 2), which bit 6 of the status said beforehand
 pub record TakenWhenRoom {K : Type 0} (v : View K) (a : Access) : Type 0 where
   pub answer : says v a .answer ≡ cond (roomFor v a) 0 2
   pub said : bit (says v (statusRead a) .byte) 64 ≡ roomFor v a

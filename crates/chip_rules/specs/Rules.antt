@@ -20,14 +20,14 @@ decode a = record { register = a .offset / 2; isData = eqb (a .offset % 2) 1; wr
 abbrev pub exists : Access → Bool
 exists a = leb (a .side) 1 && leb (a .offset) 7
 
--- "Places: parasite-to-host R1 holds 10. R3 has two places each way. Every other channel holds 1." (document 01: places)
+-- "parasite-to-host R1 holds 10"; "R3 has two places each way. Every other channel holds 1." (document 01: places)
 abbrev pub capacities : List ℕ
 capacities = 1 ∷ 10 ∷ 1 ∷ 1 ∷ 2 ∷ 2 ∷ 1 ∷ 1 ∷ []
 
 unfoldable pub capacity : ℕ → ℕ
 capacity c = getD capacities c 0
 
--- "Room in R3: flag V = 0, only when empty; V = 1, when it holds fewer than two. Elsewhere room means fewer bytes than places."
+-- "Room in R3: flag V = 0, only when empty; V = 1, when it holds fewer than two."; "Elsewhere room means fewer bytes than places."
 -- A write to channel c is taken while fewer bytes than this are held. "Clearing V with two bytes held loses nothing: both can be read, and
 -- there is no room until both have gone" (theorem `no-room-until-empty`).
 abbrev pub limit : Flags → ℕ → ℕ
@@ -41,7 +41,7 @@ room f c n = ltb n (limit f c)
 unfoldable pub nFlag : Flags → ℕ → Bool
 nFlag f n = cond (f .v) (eqb n 2) (ltb 0 n)
 
--- "bit 7 = the channel towards the reader of the status is not empty. The one exception is bit 7 of the parasite's R3 status, N",
+-- "bit 7 = the channel towards the reader of the status is not empty"; "The one exception is bit 7 of the parasite's R3 status, N",
 -- where that channel holds n bytes
 unfoldable pub ready : Flags → ℕ → ℕ → ℕ → Bool
 ready f side r n = cond (eqb side parasite && eqb r R3) (nFlag f n) (ltb 0 n)
@@ -84,7 +84,7 @@ control b f =
       q = switched b 1 (f .q);
     }
 
--- "With bits 7 and 6 both 1, all eight channels are then emptied; such a write, and no other, is the clear."
+-- "With bits 7 and 6 both 1, all eight channels are then emptied"; "such a write, and no other, is the clear"
 unfoldable pub clears : ℕ → Bool
 clears b = bit b 128 && bit b 64
 
@@ -98,7 +98,7 @@ controlled b s = record { channels = cond (clears b) emptied (s .channels); flag
 abbrev pub isControl : ℕ → Request → Bool
 isControl side q = not (q .isData) && (q .write && (eqb side host && eqb (q .register) R1))
 
--- "Reset clears the flags and empties all channels; making a chip counts as a reset."
+-- "Reset clears the flags and empties all channels"; "making a chip counts as a reset"
 abbrev pub noFlags : Flags
 noFlags = record { p = false; v = false; m = false; j = false; i = false; q = false }
 
