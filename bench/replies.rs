@@ -3,6 +3,7 @@
 use crate::interface::{
     self, TubeRan, tube_begin, tube_link, tube_link_step, tube_run, tube_write_reply,
 };
+use crate::link::serial::SERIAL;
 use crate::link::{
     A_BLOCK, ACK, BLOCK, BLOCK_CARRY_A, Begun, CARRY_A, CARRY_Y_X, ESCAPED, LENT, LINE, Link, NOTE,
     NUMBER, OSWORD, OSWORD_0, PLAIN, Ran, Reply, Told,
@@ -24,6 +25,7 @@ impl Load {
     fn reply(&self) -> Reply<'_> {
         let [carry, x, y, a] = self.numbers;
         Reply {
+            carrier: SERIAL,
             call: self.call,
             out_length: self.block.len() as u8,
             reply: self.reply,
@@ -332,6 +334,7 @@ fn write_library(load: &[Reply]) -> u64 {
     write(load, |r, out| unsafe {
         let (block, text) = (r.block, r.text);
         let written = tube_write_reply(
+            r.carrier,
             r.call,
             r.out_length,
             r.reply,

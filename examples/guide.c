@@ -9,13 +9,14 @@ static Lead lead;
 static uint8_t wire[64]; /* what the host has sent */
 static size_t waiting;
 
-void serve(const TubeRead *request, const uint8_t *body) {
-    TubeKind kind = tube_kind_of(request->code, body, request->length);
+void serve(uint8_t style, const TubeAsked *asked, const uint8_t *body) {
     int end = file[place] == 0;
-    if (kind.call != TUBE_OSBGET)
+    (void)style;
+    (void)body;
+    if (asked->call != TUBE_OSBGET)
         return;
-    printf("host: OSBGET Y=&%02X\n", body[0]);
-    waiting = answer_osbget(end, end ? 0xFE : (uint8_t)file[place], wire, sizeof wire);
+    printf("host: OSBGET Y=&%02X\n", asked->y);
+    waiting = answer_osbget(TUBE_SERIAL, end, end ? 0xFE : (uint8_t)file[place], wire, sizeof wire);
     place += !end;
 }
 
@@ -38,6 +39,32 @@ void note(const uint8_t bytes[TUBE_NOTE]) {
     printf("note: %u %u\n", bytes[0], bytes[1]);
 }
 
+/* ---- And a host at the chip that answers OSBYTE with the X and Y that it was given ---- */
+
+size_t do_call(const TubeAsked *asked, const uint8_t *body, uint8_t *out, size_t room) {
+    (void)body;
+    printf("host: OSBYTE A=&%02X X=&%02X Y=&%02X\n", asked->a, asked->x, asked->y);
+    return tube_write_reply(TUBE_PARALLEL, asked->call, 0, TUBE_REPLY_CARRY_YX, 0, asked->x, asked->y, 0, none, 0, none, 0, out, room).length;
+}
+
+static void osbytes(TubeChip *chip) {
+    static HostEnd end;
+    static ParasiteCall call;
+    end.reader = tube_reader(TUBE_PARALLEL);
+    for (int i = 0; i < 2; i++) {
+        uint8_t kind = TUBE_TAKEN_MORE;
+        if (ask_osbyte(&call, 0xDA, (uint8_t)(0x9B + i), 0) != TUBE_DONE)
+            return;
+        for (int look = 0; look < 100 && kind == TUBE_TAKEN_MORE; look++) {
+            kind = parasite_look(chip, &call);
+            host_look(chip, &end);
+        }
+        TubeGiven given = tube_read_reply(call.call, call.out_length, call.reply, call.got);
+        printf("parasite: kind %u, %u bytes, carry %u, Y=&%02X, X=&%02X\n", kind, call.got, given.carry, given.y, given.x);
+    }
+    printf("parasite: OSBYTE A=&7F is answered %u\n", ask_osbyte(&call, 0x7F, 0, 0));
+}
+
 int main(void) {
     TubeChip chip = tube_new();
     int taken = 0;
@@ -50,6 +77,8 @@ int main(void) {
     arrived(&lead, (const uint8_t *)"Hi\n", 3);
     for (int i = 0; i < 3; i++)
         printf("client: OSBGET gives %d\n", osbget(&link, 5));
+
+    osbytes(&chip);
 
     const uint8_t script[9] = {0x01, 0x00, 0x81, 0x03, 0x07, 0x2A, 0x00, 0x07, 0x00};
     printf("script: answer %d\n", play(script, sizeof script));

@@ -35,29 +35,30 @@ static void print_string(const uint8_t *bytes, size_t length) {
 
 static void print_request(const TubeRead *read, const uint8_t *body) {
     static const char *const styles[4] = {"Acorn", "Unix", "DOS", "reserved"};
-    TubeKind kind = tube_kind_of(read->code, body, read->length);
+    TubeAsked asked = tube_read_request(read->code, body, read->length);
+    const uint8_t *block = body + asked.block_start, *text = body + asked.text_start;
     printf("request, %s names: ", styles[read->style]);
-    switch ((TubeCall)kind.call) {
+    switch ((TubeCall)asked.call) {
     case TUBE_OSRDCH: printf("OSRDCHIO"); break;
-    case TUBE_OSCLI: printf("OSCLI"); print_string(body, read->length - 1); break;
-    case TUBE_OSBYTE_LOW: printf("OSBYTE A=&%02X X=&%02X", body[1], body[0]); break;
-    case TUBE_OSBYTE_HIGH: printf("OSBYTE A=&%02X X=&%02X Y=&%02X", body[2], body[0], body[1]); break;
+    case TUBE_OSCLI: printf("OSCLI"); print_string(text, asked.text_length); break;
+    case TUBE_OSBYTE_LOW: printf("OSBYTE A=&%02X X=&%02X", asked.a, asked.x); break;
+    case TUBE_OSBYTE_HIGH: printf("OSBYTE A=&%02X X=&%02X Y=&%02X", asked.a, asked.x, asked.y); break;
     case TUBE_OSWORD:
-        printf("OSWORD A=&%02X, %u bytes wanted", body[0], kind.out_length);
-        print_block(body + 2, body[1]);
+        printf("OSWORD A=&%02X, %u bytes wanted", asked.a, asked.out_length);
+        print_block(block, asked.block_length);
         break;
-    case TUBE_OSWORD0: printf("OSWORD 0"); print_block(body, 5); break;
-    case TUBE_OSARGS: printf("OSARGS A=&%02X Y=&%02X", body[5], body[0]); print_block(body + 1, 4); break;
-    case TUBE_OSBGET: printf("OSBGET Y=&%02X", body[0]); break;
-    case TUBE_OSBPUT: printf("OSBPUT A=&%02X Y=&%02X", body[1], body[0]); break;
-    case TUBE_OSFIND_CLOSE: printf("OSFIND A=&00 Y=&%02X", body[1]); break;
-    case TUBE_OSFIND_OPEN: printf("OSFIND A=&%02X", body[0]); print_string(body + 1, read->length - 2); break;
+    case TUBE_OSWORD0: printf("OSWORD 0"); print_block(block, asked.block_length); break;
+    case TUBE_OSARGS: printf("OSARGS A=&%02X Y=&%02X", asked.a, asked.y); print_block(block, asked.block_length); break;
+    case TUBE_OSBGET: printf("OSBGET Y=&%02X", asked.y); break;
+    case TUBE_OSBPUT: printf("OSBPUT A=&%02X Y=&%02X", asked.a, asked.y); break;
+    case TUBE_OSFIND_CLOSE: printf("OSFIND A=&00 Y=&%02X", asked.y); break;
+    case TUBE_OSFIND_OPEN: printf("OSFIND A=&%02X", asked.a); print_string(text, asked.text_length); break;
     case TUBE_OSFILE:
-        printf("OSFILE A=&%02X", body[read->length - 1]);
-        print_string(body + TUBE_FILE_BLOCK, tube_file_name(body, read->length).length);
-        print_block(body, TUBE_FILE_BLOCK);
+        printf("OSFILE A=&%02X", asked.a);
+        print_string(text, asked.text_length);
+        print_block(block, asked.block_length);
         break;
-    case TUBE_OSGBPB: printf("OSGBPB A=&%02X", body[13]); print_block(body, 13); break;
+    case TUBE_OSGBPB: printf("OSGBPB A=&%02X", asked.a); print_block(block, asked.block_length); break;
     }
     putchar('\n');
 }

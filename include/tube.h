@@ -28,10 +28,13 @@ enum {
     TUBE_MISSING = 1,        /* no such side or offset, or a chip record that holds more than its capacities: chip unchanged, byte 0 */
     TUBE_NO_ROOM = 2,        /* data write to a channel without room: chip unchanged, byte 0 */
     TUBE_EMPTY = 3,          /* data read of an empty channel: chip unchanged, byte 0 */
-    TUBE_UNKNOWN_CODE = 4,   /* a mark or a request code that is not carried: the reader or link is stopped */
+    TUBE_UNKNOWN_CODE = 4,   /* a mark or a request code that is not carried: the reader or link is stopped; a number that is no call: the link as
+                                it was, a writer's buffer untouched */
     TUBE_MARK_INSIDE = 5,    /* a mark inside a request, or inside an action's own bytes: the reader or link is stopped */
-    TUBE_STRING_LONG = 6,    /* a string or an error's text over 255 bytes: the reader or link is stopped; a writer's buffer untouched */
-    TUBE_STOPPED = 7,        /* a byte given to, or a call begun on, a stopped reader or link: the record is given back as it was */
+    TUBE_STRING_LONG = 6,    /* a string or an error's text over 255 bytes: the reader or link is stopped; a writer's buffer and the reply so far
+                                untouched */
+    TUBE_STOPPED = 7,        /* a byte given to, or a call begun on, a stopped reader or link, or a byte behind the last of a reply: the record is
+                                given back as it was */
     TUBE_BUFFER_SHORT = 8,   /* a lent buffer is too short: no byte of it was touched, nothing was played, no raw byte used */
     TUBE_BAD_FIELD = 9,      /* a field breaks its rule: the reader is stopped; a writer's buffer untouched */
     TUBE_LIMIT_REACHED = 10, /* the play limit is reached and script bytes remain: the chip as after the last played record */
@@ -165,11 +168,14 @@ typedef enum {
     TUBE_OSGBPB = 12
 } TubeCall;
 
-enum { TUBE_CALLS = 13 }; /* how many there are */
+enum {
+    TUBE_CALLS = 13,   /* how many there are */
+    TUBE_NO_CALL = 255 /* told of a code that no request has */
+};
 
 /* A request reader. An escape was seen where `escape` is not 0. A record with a number out of range, or one that exceeds its limits
- * (inside a request: a style above 3, or above 0 on the parallel side; a code without a body; a count not below its longest body), counts
- * as stopped. */
+ * (outside a request: a style, code or count other than 0; inside one: a style above 3, or above 0 on the parallel side; a code without a
+ * body; a count not below its longest body), counts as stopped. */
 typedef struct {
     uint16_t count; /* bytes of the body so far */
     uint8_t carrier;
@@ -212,25 +218,43 @@ TubeFed tube_feed(TubeReader reader, const uint8_t *raw, size_t raw_length, uint
 
 typedef struct {
     size_t length;  /* of the encoding, where it was written, else 0 */
-    uint8_t answer; /* 0, TUBE_STRING_LONG, TUBE_BAD_FIELD or TUBE_BUFFER_SHORT, the first that applies */
+    uint8_t answer; /* 0, TUBE_UNKNOWN_CODE, TUBE_STRING_LONG, TUBE_BAD_FIELD or TUBE_BUFFER_SHORT, the first that applies */
 } TubeWritten;
 
 /* Writes a request into the start of `out`; the bytes beyond it stay, and a refused writer has touched none. A number that the call
  * does not have is not read. `block` is OSWORD's in block or the call's block, high byte first; `text` is its string without &0D.
- * TUBE_BAD_FIELD: no such carrier, style or call, an A that the call does not allow, a block that is not as long as the call's, a &0D in the
- * string, a block or string for a call that has none. */
+ * TUBE_UNKNOWN_CODE: no such call. TUBE_BAD_FIELD: no such carrier or style, an A that the call does not allow, a block that is not as long as
+ * the call's, a &0D in the string, a block or string for a call that has none. */
 TubeWritten tube_write_request(uint8_t carrier, uint8_t style, uint8_t call, uint8_t x, uint8_t y, uint8_t a, uint8_t out_length,
                                const uint8_t *block, size_t block_length, const uint8_t *text, size_t text_length,
                                uint8_t *out, size_t room);
 
 typedef struct {
-    uint8_t call;
+    uint8_t call;       /* TubeCall, or TUBE_NO_CALL of a code that no request has */
     uint8_t out_length; /* OSWORD's, else 0 */
 } TubeKind;
 
-/* The call of a finished request, by its code and body, as tube_begin, tube_write_reply and tube_read_reply take it. It tells nothing of
- * a code that no request has, or of a body that is not finished. */
+/* The call of a finished request, by its code and body, as tube_begin, tube_write_reply, tube_reply_step and tube_read_reply take it. Of a body that
+ * is not finished an out length is the last byte there is, and an OSFIND without a byte closes. */
 TubeKind tube_kind_of(uint8_t code, const uint8_t *body, size_t length);
+
+/* A request read: its call and its numbers, as tube_write_request takes them; what the call does not have is 0. Its block and its string,
+ * without &0D, lie inside the body. */
+typedef struct {
+    size_t block_start;
+    size_t block_length;
+    size_t text_start;
+    size_t text_length;
+    uint8_t call; /* TubeCall, or TUBE_NO_CALL of a code that no request has, and then all else is 0 */
+    uint8_t x;
+    uint8_t y;
+    uint8_t a;
+    uint8_t out_length;
+} TubeAsked;
+
+/* The fields of a finished request, by its code and body. Of a body that is not finished a byte that is not there counts as 0, a part starts
+ * where the body ends at the latest, and OSWORD's out length and OSFILE's A are the last byte there is. */
+TubeAsked tube_read_request(uint8_t code, const uint8_t *body, size_t length);
 
 enum { TUBE_FILE_BLOCK = 16 }; /* the bytes of OSFILE's block; its name stands behind them */
 
@@ -242,7 +266,7 @@ typedef struct {
 /* The name in the body of an OSFILE request. In one that a reader finished it is always found. */
 TubeName tube_file_name(const uint8_t *body, size_t length);
 
-/* ---- Replies and actions, inward: the client's end of the serial lead ---- */
+/* ---- Replies and actions, inward: the client's end of the serial lead, and the parasite's of R2 ---- */
 
 enum {
     TUBE_REPLY_LENGTH = 257, /* the longest reply, and the bytes lent for it */
@@ -306,11 +330,11 @@ enum { TUBE_BEGUN = 0, TUBE_COMPLETE = 1, TUBE_DENIED = 2 }; /* kinds of a begun
 typedef struct {
     TubeLink link;
     uint8_t kind;   /* the call waits; or it is complete, since its reply has no byte; or it is denied */
-    uint8_t answer; /* of a denied call TUBE_STOPPED or TUBE_CALL_WAITS, else 0 */
+    uint8_t answer; /* of a denied call TUBE_STOPPED, TUBE_CALL_WAITS or TUBE_UNKNOWN_CODE, the first that applies, else 0 */
 } TubeBegun;
 
 /* Begins a call, so that the data bytes that follow are its reply. The link is the one given unless the call waits. `out_length` is read for
- * OSWORD only. A number that is no call is answered as by a stopped link. */
+ * OSWORD only. TUBE_UNKNOWN_CODE: a number that is no call. */
 TubeBegun tube_begin(TubeLink link, uint8_t call, uint8_t out_length);
 
 /* One raw byte. The reply so far and the open action's own bytes stand in the two lent buffers, which the caller keeps from call to call;
@@ -333,7 +357,7 @@ TubeRan tube_run(TubeLink link, const uint8_t *raw, size_t raw_length, uint8_t r
 /* The replies, with the numbers that each has; a carry is set where its number is not 0. */
 typedef enum {
     TUBE_REPLY_CARRY_A = 0,       /* OSRDCH, OSBGET: carry, a */
-    TUBE_REPLY_ACK = 1,           /* OSCLI: carry */
+    TUBE_REPLY_ACK = 1,           /* OSCLI: carry, which is bit 7 of the byte */
     TUBE_REPLY_BYTE = 2,          /* OSBYTE low (its X), opening OSFIND (its A): a */
     TUBE_REPLY_CARRY_YX = 3,      /* OSBYTE high: carry, y, x */
     TUBE_REPLY_BLOCK = 4,         /* OSWORD: block */
@@ -345,12 +369,29 @@ typedef enum {
     TUBE_REPLY_NONE = 10          /* read for a number that is no call; never written */
 } TubeReplyForm;
 
-/* Writes the reply to a call into the start of `out`; the bytes beyond it stay, and a refused writer has touched none. A number that the reply
- * does not have is not read. `block` is high byte first; `text` is the line without &0D. TUBE_BAD_FIELD: no such call, a reply that does not
- * fit it, a block that is not as long as the reply's (of OSWORD: `out_length`), a &0D in the line, a block or line for a reply that has none. */
-TubeWritten tube_write_reply(uint8_t call, uint8_t out_length, uint8_t reply, uint8_t carry, uint8_t x, uint8_t y, uint8_t a,
+/* Writes the reply to a call into the start of `out`, for the serial lead or, without escapes, for the parallel side; the bytes beyond it stay,
+ * and a refused writer has touched none. A number that the reply does not have is not read. `block` is high byte first; `text` is the line without
+ * &0D. TUBE_UNKNOWN_CODE: no such call. TUBE_BAD_FIELD: no such carrier, a reply that does not fit the call, a block that is not as long as the
+ * reply's (of OSWORD: `out_length`), a &0D in the line, a block or line for a reply that has none. */
+TubeWritten tube_write_reply(uint8_t carrier, uint8_t call, uint8_t out_length, uint8_t reply, uint8_t carry, uint8_t x, uint8_t y, uint8_t a,
                              const uint8_t *block, size_t block_length, const uint8_t *text, size_t text_length,
                              uint8_t *out, size_t room);
+
+/* Kinds of what a byte of a reply does on the parallel side. */
+enum { TUBE_TAKEN_MORE = 0, TUBE_TAKEN_LAST = 1, TUBE_TAKEN_REFUSED = 2 };
+
+typedef struct {
+    uint16_t count; /* bytes of the reply so far, for the next byte: one more than given, unless the byte was refused */
+    uint8_t kind;   /* more bytes follow; it was the last one; or it is refused */
+    uint8_t answer; /* of a refused byte TUBE_UNKNOWN_CODE, TUBE_STOPPED or TUBE_STRING_LONG, the first that applies, else 0 */
+} TubeTaken;
+
+/* One byte of the reply to a call on the parallel side, as a parasite reads it from R2 behind its request: there are no escapes and no actions.
+ * The reply so far stands in the first `count` bytes of the lent reply, which the caller keeps from call to call; reply[count] changes where the
+ * byte is taken, and no other. Start with count 0, and stop at TUBE_TAKEN_LAST: nothing here remembers that a line has ended. An OSWORD with
+ * `out_length` 0 has no reply byte. TUBE_UNKNOWN_CODE: no such call; TUBE_STOPPED: the count is not below the longest reply of the call;
+ * TUBE_STRING_LONG: a line of over 255 bytes. */
+TubeTaken tube_reply_step(uint8_t call, uint8_t out_length, uint16_t count, uint8_t byte, uint8_t reply[TUBE_REPLY_LENGTH]);
 
 /* A reply read: what it does not have is 0, `carry` is 0 or 1. Its block and its string lie inside the bytes read. */
 typedef struct {
@@ -365,7 +406,8 @@ typedef struct {
     uint8_t a;
 } TubeGiven;
 
-/* The fields of the data bytes of a finished reply to a call. A byte that is not there counts as 0. */
+/* The fields of the data bytes of a finished reply to a call. Of a reply that is not finished a byte that is not there counts as 0, and a part
+ * starts where the bytes end at the latest. */
 TubeGiven tube_read_reply(uint8_t call, uint8_t out_length, const uint8_t *bytes, size_t length);
 
 #ifdef __cplusplus

@@ -345,8 +345,9 @@ struct Seen {
     lengths: [[bool; 256]; 3],
     /// Calls that wait then, by streams or steps, open action, escape and call.
     begun: [[[[u64; CALLS as usize]; 2]; ACTIONS]; 2],
-    /// By streams or steps: complete, refused with 7, with 12, no such call.
-    begun_otherwise: [[u64; 4]; 2],
+    /// By streams or steps: complete; refused with 7, with 12, of a call or of a
+    /// number that is none; refused with 4.
+    begun_otherwise: [[u64; 6]; 2],
     /// Errors opened while idle that end a call; pairs that a call divides.
     late: [u64; 2],
     /// Waiting, in an action, in a pair, stopped.
@@ -384,7 +385,7 @@ impl Seen {
             escaped_own: [[false; LENT]; ACTIONS],
             lengths: [[false; 256]; 3],
             begun: [[[[0; CALLS as usize]; 2]; ACTIONS]; 2],
-            begun_otherwise: [[0; 4]; 2],
+            begun_otherwise: [[0; 6]; 2],
             late: [0; 2],
             resets: [0; 4],
             records: [[0; LENT]; WAITS],
@@ -453,15 +454,16 @@ impl Seen {
     /// Notes a begun call in a stream or from any record.
     fn begun(&mut self, set: usize, before: &Link, call: u8, begun: Begun) {
         let otherwise = &mut self.begun_otherwise[set];
+        let none = (call >= CALLS) as usize;
         match begun {
             Begun::Waits => {
                 let places = &mut self.begun[set][before.action as usize];
                 places[before.escape as usize][call as usize] += 1;
             }
             Begun::Complete => otherwise[0] += 1,
-            Begun::Refused(_) if call >= CALLS => otherwise[3] += 1,
-            Begun::Refused(7) => otherwise[1] += 1,
-            Begun::Refused(_) => otherwise[2] += 1,
+            Begun::Refused(7) => otherwise[1 + none] += 1,
+            Begun::Refused(12) => otherwise[3 + none] += 1,
+            Begun::Refused(_) => otherwise[5] += 1,
         }
     }
 
@@ -638,7 +640,7 @@ impl Seen {
         let few = every(2, ACTIONS * 2, CALLS as usize)
             .find(|&(set, place, call)| self.begun[set][place / 2][place % 2][call] < 100);
         let otherwise =
-            every(1, 2, 4).find(|&(_, set, answer)| self.begun_otherwise[set][answer] < 1000);
+            every(1, 2, 6).find(|&(_, set, answer)| self.begun_otherwise[set][answer] < 1000);
         let few = few.map(|(set, place, call)| {
             format!(
                 "calls {call} begun in action {}, escape {}, in {}",
@@ -647,7 +649,14 @@ impl Seen {
                 SETS[set]
             )
         });
-        const ANSWERS: [&str; 4] = ["complete", "refused with 7", "refused with 12", "above 12"];
+        const ANSWERS: [&str; 6] = [
+            "complete",
+            "refused with 7",
+            "above 12 refused with 7",
+            "refused with 12",
+            "above 12 refused with 12",
+            "refused with 4",
+        ];
         let otherwise =
             otherwise.map(|(_, set, answer)| format!("calls {} in {}", ANSWERS[answer], SETS[set]));
         few.or(otherwise)

@@ -92,6 +92,7 @@ enum Property {
     InputResets,
     InputRecords,
     InputBeyond,
+    InputOutside,
     InputEscapeNumbers,
     InputSlices,
 }
@@ -103,7 +104,7 @@ impl From<Property> for usize {
 }
 
 #[rustfmt::skip]
-const PROPERTIES: [Row<Property>; 30] = [
+const PROPERTIES: [Row<Property>; 31] = [
     (Property::Fresh, "fresh reader", 256),
     (Property::StreamKind, "stream: kind of answer", 40 * STREAMS),
     (Property::StreamValue, "stream: character or refusal number", 40 * STREAMS),
@@ -132,6 +133,7 @@ const PROPERTIES: [Row<Property>; 30] = [
     (Property::InputResets, "inputs: resets inside and after a refusal", 1),
     (Property::InputRecords, "inputs: records of each code and count", 1),
     (Property::InputBeyond, "inputs: records beyond each limit", 1),
+    (Property::InputOutside, "inputs: each style, code and count outside a request", 1),
     (Property::InputEscapeNumbers, "inputs: each escape number", 1),
     (Property::InputSlices, "inputs: each answer to slices whole, cut and from any record", 1),
 ];
@@ -263,15 +265,25 @@ struct Seen {
     /// By carrier, half the code and count.
     records: [[[u64; BODY]; 12]; 2],
     /// By the limits that a record is beyond.
-    beyond: [u64; 8],
+    beyond: [u64; FAULTS],
+    /// Outside a request, by carrier: the other two being 0.
+    styles_outside: [[bool; 256]; 2],
+    codes_outside: [[bool; 256]; 2],
+    counts_outside: [Vec<bool>; 2],
     /// Escape numbers outside and inside.
     escapes: [[bool; 256]; 2],
     /// Slices by their kind and answer.
     slices: [[u64; 4]; 3],
     /// Slices that are empty, start inside a request or inside an escape pair,
-    /// are used up with an answer, or have bytes left.
-    edges: [u64; 5],
+    /// are used up with an answer, or have bytes left; those on a record outside
+    /// a request that has a style, code or count.
+    edges: [u64; 6],
 }
+
+/// The faults that a record can have: a carrier, a stop, a phase out of range; a
+/// style, code and count outside a request; inside one a style on each carrier, no
+/// code, one without a body, a count.
+const FAULTS: usize = 11;
 
 impl Seen {
     fn new() -> Box<Seen> {
@@ -284,10 +296,13 @@ impl Seen {
             resets_inside: 0,
             resets_stopped: 0,
             records: [[[0; BODY]; 12]; 2],
-            beyond: [0; 8],
+            beyond: [0; FAULTS],
+            styles_outside: [[false; 256]; 2],
+            codes_outside: [[false; 256]; 2],
+            counts_outside: [vec![false; 65_536], vec![false; 65_536]],
             escapes: [[false; 256]; 2],
             slices: [[0; 4]; 3],
-            edges: [0; 5],
+            edges: [0; 6],
         })
     }
 
@@ -340,6 +355,15 @@ impl Seen {
     fn step(&mut self, record: &TubeReader, answer: Read) {
         let reader = record.to_second();
         self.answer(1, &reader, answer);
+        if record.phase == OUTSIDE && record.carrier <= PARALLEL {
+            let at = record.carrier as usize;
+            match (record.style, record.code, record.count) {
+                (style, 0, 0) => self.styles_outside[at][style as usize] = true,
+                (0, code, 0) => self.codes_outside[at][code as usize] = true,
+                (0, 0, count) => self.counts_outside[at][count as usize] = true,
+                _ => {}
+            }
+        }
         if !reader.stopped() {
             let inside = (reader.phase == INSIDE) as usize;
             self.escapes[inside][record.escape as usize] = true;
@@ -350,11 +374,14 @@ impl Seen {
         }
         // Counts only records with exactly one fault.
         let good_code = record.code & 1 == 0 && (2..=0x16).contains(&record.code);
-        let inside = record.phase == INSIDE;
-        let faults = [
+        let (inside, outside) = (record.phase == INSIDE, record.phase == OUTSIDE);
+        let faults: [bool; FAULTS] = [
             record.carrier > PARALLEL,
             record.phase == 2,
             record.phase > 2,
+            outside && record.style != 0,
+            outside && record.code != 0,
+            outside && record.count != 0,
             inside && record.carrier == SERIAL && record.style > 3,
             inside && record.carrier == PARALLEL && record.style > 0,
             inside && record.code == 0,
@@ -382,6 +409,7 @@ impl Seen {
             before.escape && used > 1,
             kind != 0 && used > 1 && used == length,
             used > 1 && used < length,
+            length > 0 && before.phase == OUTSIDE && before.stopped() && before.carrier <= PARALLEL,
         ];
         for (count, edge) in self.edges.iter_mut().zip(edges) {
             *count += edge as u64;
@@ -401,9 +429,10 @@ impl Seen {
         };
         report.need(Property::InputResets, few_resets);
         report.need(Property::InputRecords, self.few_records());
-        let few_beyond = (0..8).find(|&limit| self.beyond[limit] < 1000);
+        let few_beyond = (0..FAULTS).find(|&limit| self.beyond[limit] < 1000);
         let few_beyond = few_beyond.map(|limit| format!("records beyond limit {limit} alone"));
         report.need(Property::InputBeyond, few_beyond);
+        report.need(Property::InputOutside, self.few_outside());
         let few_escapes = (0..512).find(|&at| !self.escapes[at / 256][at % 256]);
         let few_escapes =
             few_escapes.map(|at| format!("escape numbers {}, phase {}", at % 256, at / 256));
@@ -481,6 +510,24 @@ impl Seen {
                 return Some(format!(
                     "&9B at index {index} of &{code:02X}, carrier {carrier}"
                 ));
+            }
+        }
+        None
+    }
+
+    fn few_outside(&self) -> Option<String> {
+        for carrier in 0..2 {
+            let lists = [
+                ("styles", &self.styles_outside[carrier][..]),
+                ("codes", &self.codes_outside[carrier]),
+                ("counts", &self.counts_outside[carrier]),
+            ];
+            for (name, list) in lists {
+                // 0, 0 and 0 is told as a style.
+                let none = |&at: &usize| !list[at] && (name == "styles" || at != 0);
+                if let Some(at) = (0..list.len()).find(none) {
+                    return Some(format!("{name} {at} outside a request, carrier {carrier}"));
+                }
             }
         }
         None
@@ -887,15 +934,19 @@ const SLICES: u64 = 1_000_000;
 impl Random {
     /// A record within its limits and beyond.
     fn reader_record(&mut self) -> TubeReader {
-        let carrier = match self.below(24) {
-            0 => self.at_least(2),
-            at => at as u8 % 2,
-        };
         let phase = match self.below(24) {
             0 => self.at_least(3),
             1 => 2,
             2..8 => OUTSIDE,
             _ => INSIDE,
+        };
+        self.reader_record_in(phase)
+    }
+
+    fn reader_record_in(&mut self, phase: u8) -> TubeReader {
+        let carrier = match self.below(24) {
+            0 => self.at_least(2),
+            at => at as u8 % 2,
         };
         let escape = match self.below(6) {
             0..3 => 0,
@@ -929,6 +980,14 @@ impl Random {
             8..10 => self.below(20).min(longest),
             10..14 => self.below(3),
             _ => self.below(longest.max(1)),
+        };
+        // Outside a request most often none of the three, or one alone.
+        let (style, code, count) = match (phase, self.below(12)) {
+            (OUTSIDE, 0) => (style, 0, 0),
+            (OUTSIDE, 1) => (0, code, 0),
+            (OUTSIDE, 2) => (0, 0, count),
+            (OUTSIDE, 3..11) => (0, 0, 0),
+            _ => (style, code, count),
         };
         TubeReader {
             count: count as u16,
@@ -1060,11 +1119,27 @@ fn compare_each_step(random: &mut Random, seen: &mut Seen, report: &mut Report) 
         }
     }
     for (phase, raw, escape) in every(4, 256, 256) {
-        let mut record = random.reader_record();
-        record.phase = phase as u8;
+        let mut record = random.reader_record_in(phase as u8);
         record.escape = escape as u8;
         let lent = random.lent(record.count as usize);
         compare_step(record, raw as u8, &lent, seen, report);
+    }
+}
+
+/// Every style, code and count outside a request, the other two being 0.
+fn compare_outside(random: &mut Random, seen: &mut Seen, report: &mut Report) {
+    for carrier in [SERIAL, PARALLEL] {
+        let fresh = unsafe { tube_reader(carrier) };
+        let styles = (0..=255).map(|style| TubeReader { style, ..fresh });
+        let codes = (0..=255).map(|code| TubeReader { code, ..fresh });
+        let counts = (0..=u16::MAX).map(|count| TubeReader { count, ..fresh });
+        for record in styles.chain(codes).chain(counts) {
+            let escape = random.below(2) as u8;
+            let lent = random.lent(record.count as usize);
+            let raw = random.reader_raw();
+            let record = TubeReader { escape, ..record };
+            compare_step(record, raw, &lent, seen, report);
+        }
     }
 }
 
@@ -1096,6 +1171,7 @@ pub fn whole(random: &mut Random, report: &mut Report) {
     compare_random(random, 1, &mut seen, report);
     compare_each(random, &mut seen, report);
     compare_each_step(random, &mut seen, report);
+    compare_outside(random, &mut seen, report);
     seen.report(report);
 }
 

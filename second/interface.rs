@@ -136,10 +136,34 @@ pub struct TubeGiven {
     pub a: u8,
 }
 
+/// Kind 0 needs more, 1 is the last, 2 refused.
+#[repr(C)]
+#[derive(Clone, Copy, PartialEq, Debug)]
+pub struct TubeTaken {
+    pub count: u16,
+    pub kind: u8,
+    pub answer: u8,
+}
+
 #[repr(C)]
 #[derive(Clone, Copy, Debug)]
 pub struct TubeKind {
     pub call: u8,
+    pub out_length: u8,
+}
+
+/// The fields of a request.
+#[repr(C)]
+#[derive(Clone, Copy, PartialEq, Debug)]
+pub struct TubeAsked {
+    pub block_start: usize,
+    pub block_length: usize,
+    pub text_start: usize,
+    pub text_length: usize,
+    pub call: u8,
+    pub x: u8,
+    pub y: u8,
+    pub a: u8,
     pub out_length: u8,
 }
 
@@ -214,6 +238,7 @@ unsafe extern "C" {
         room_length: usize,
     ) -> TubeRan;
     pub fn tube_write_reply(
+        carrier: u8,
         call: u8,
         out_length: u8,
         reply: u8,
@@ -228,7 +253,15 @@ unsafe extern "C" {
         out: *mut u8,
         room: usize,
     ) -> TubeWritten;
+    pub fn tube_reply_step(
+        call: u8,
+        out_length: u8,
+        count: u16,
+        byte: u8,
+        reply: *mut u8,
+    ) -> TubeTaken;
     pub fn tube_read_reply(call: u8, out_length: u8, bytes: *const u8, length: usize) -> TubeGiven;
     pub fn tube_kind_of(code: u8, body: *const u8, length: usize) -> TubeKind;
+    pub fn tube_read_request(code: u8, body: *const u8, length: usize) -> TubeAsked;
     pub fn tube_file_name(body: *const u8, length: usize) -> TubeName;
 }

@@ -1,7 +1,7 @@
 //! A second program for the replies and actions of the serial protocol: the link
-//! that reads them byte by byte, the loop over it, the reply writer, and the
-//! fields of a finished reply. It is written from the rules and shares nothing
-//! with the proved library.
+//! that reads them byte by byte, the loop over it, the replies of the parallel
+//! side byte by byte, the reply writer for both, and the fields of a finished
+//! reply. It is written from the rules and shares nothing with the proved library.
 
 // Its escape layer, strings and refusals are used here, its requests in tests.
 #[allow(dead_code)]
@@ -9,25 +9,15 @@
 pub mod serial;
 
 use serial::{
-    BROKEN_RULE, LONG_STRING, LONGEST_STRING, MARK_INSIDE, NOT_CARRIED, READER_STOPPED,
-    SHORT_BUFFER, STRING_END, Unit, ends_string, put_serial, unit,
+    ARGS_BLOCK, BROKEN_RULE, FILE_BLOCK, GBPB_BLOCK, LONG_STRING, LONGEST_STRING, MARK_INSIDE,
+    NOT_CARRIED, PARALLEL, READER_STOPPED, SERIAL, SHORT_BUFFER, STRING_END, Unit, ends_string,
+    put_parallel, put_serial, unit,
+};
+pub use serial::{
+    NO_CALL, OSARGS, OSBGET, OSBPUT, OSBYTE_HIGH, OSBYTE_LOW, OSCLI, OSFILE, OSFIND_CLOSE,
+    OSFIND_OPEN, OSGBPB, OSRDCH, OSWORD, OSWORD_0,
 };
 use std::ops::Range;
-
-// Calls; the numbers are those of `serial::Request`.
-pub const OSRDCH: u8 = 0;
-pub const OSCLI: u8 = 1;
-pub const OSBYTE_LOW: u8 = 2;
-pub const OSBYTE_HIGH: u8 = 3;
-pub const OSWORD: u8 = 4;
-pub const OSWORD_0: u8 = 5;
-pub const OSARGS: u8 = 6;
-pub const OSBGET: u8 = 7;
-pub const OSBPUT: u8 = 8;
-pub const OSFIND_CLOSE: u8 = 9;
-pub const OSFIND_OPEN: u8 = 10;
-pub const OSFILE: u8 = 11;
-pub const OSGBPB: u8 = 12;
 
 /// How many calls there are.
 pub const CALLS: u8 = 13;
@@ -39,10 +29,6 @@ const CALL_WAITS: u8 = 12;
 /// longest are a line with its first byte and its end, and an error's number
 /// with its text and end.
 pub const LENT: usize = 257;
-
-const ARGS_BLOCK: usize = 4;
-const FILE_BLOCK: usize = 16;
-const GBPB_BLOCK: usize = 13;
 
 /// The most bytes that a reply to each call has; OSWORD's is its out length.
 const MOST: [usize; CALLS as usize] = [2, 1, 1, 3, 0, LENT, 5, 2, 1, 1, 1, 17, 15];
@@ -161,11 +147,14 @@ impl Link {
 
     /// Begins a call. The open action and the escape stay.
     pub fn begin(&mut self, call: u8, out_length: u8) -> Begun {
-        if self.stopped() || call >= CALLS {
+        if self.stopped() {
             return Begun::Refused(READER_STOPPED);
         }
         if self.wait != IDLE {
             return Begun::Refused(CALL_WAITS);
+        }
+        if call >= CALLS {
+            return Begun::Refused(NOT_CARRIED);
         }
         let out_length = if call == OSWORD { out_length } else { 0 };
         if call == OSWORD && out_length == 0 {
@@ -367,11 +356,56 @@ impl Link {
     }
 }
 
+// ---- Replies on the parallel side ----
+
+/// The answer to one byte of a reply on the parallel side.
+#[derive(Clone, Copy, PartialEq, Debug)]
+pub enum ReplyByte {
+    More,
+    Last,
+    Refused(u8),
+}
+
+/// Takes one byte of the reply to a call, of which `count` bytes have been taken:
+/// what a link that waits for the call does with a data byte.
+pub fn reply_step(
+    (call, out_length): (u8, u8),
+    count: &mut usize,
+    byte: u8,
+    reply: &mut [u8; LENT],
+) -> ReplyByte {
+    if call >= CALLS {
+        return ReplyByte::Refused(NOT_CARRIED);
+    }
+    let link = Link {
+        wait: 1 + call,
+        out_length,
+        got: *count,
+        ..Link::new()
+    };
+    if link.reply_beyond() {
+        return ReplyByte::Refused(READER_STOPPED);
+    }
+    let last = match link.is_last(byte) {
+        Ok(last) => last,
+        Err(number) => return ReplyByte::Refused(number),
+    };
+    reply[*count] = byte;
+    *count += 1;
+    if last {
+        ReplyByte::Last
+    } else {
+        ReplyByte::More
+    }
+}
+
 // ---- The kind of a request ----
 
-/// The call of a finished request, and its out length.
+/// The call of a finished request, and its out length; `NO_CALL` where no request
+/// has the code.
 pub fn kind_of(code: u8, body: &[u8]) -> (u8, u8) {
     let call = match code {
+        0x00 => OSRDCH,
         0x02 => OSCLI,
         0x04 => OSBYTE_LOW,
         0x06 => OSBYTE_HIGH,
@@ -384,7 +418,7 @@ pub fn kind_of(code: u8, body: &[u8]) -> (u8, u8) {
         0x12 => OSFIND_OPEN,
         0x14 => OSFILE,
         0x16 => OSGBPB,
-        _ => OSRDCH,
+        _ => NO_CALL,
     };
     (call, 0)
 }
@@ -417,8 +451,11 @@ pub struct Given {
     pub text: Range<usize>,
 }
 
-/// Takes a finished reply apart. A byte that is not there counts as 0.
+/// Takes a finished reply apart. Of one that is not finished a byte that is not
+/// there counts as 0, and a part starts where the bytes end at the latest.
 pub fn given(call: u8, bytes: &[u8]) -> Given {
+    // Behind the first byte.
+    let second = bytes.len().min(1);
     let byte = |at: usize| bytes.get(at).copied().unwrap_or(0);
     let carry = |at: usize| byte(at) & 0x80 != 0;
     let none = Given::default();
@@ -457,16 +494,13 @@ pub fn given(call: u8, bytes: &[u8]) -> Given {
         },
         OSWORD_0 => Given {
             reply: LINE,
-            text: match bytes.len() {
-                ..2 => 0..0,
-                length => 1..length - 1,
-            },
+            text: second..bytes.len().saturating_sub(1).max(second),
             ..none
         },
         OSARGS | OSFILE => Given {
             reply: A_BLOCK,
             a: byte(0),
-            block: bytes.len().min(1)..bytes.len(),
+            block: second..bytes.len(),
             ..none
         },
         OSBPUT | OSFIND_CLOSE => Given {
@@ -492,6 +526,7 @@ pub fn given(call: u8, bytes: &[u8]) -> Given {
 /// A reply to be written. Numbers that the reply does not have are ignored.
 #[derive(Clone, Copy, Debug)]
 pub struct Reply<'a> {
+    pub carrier: u8,
     /// The call that waits, and OSWORD's out length.
     pub call: u8,
     pub out_length: u8,
@@ -593,6 +628,9 @@ impl Reply<'_> {
     /// refusal.
     pub fn write(&self, out: &mut [u8]) -> Result<usize, u8> {
         let (block, text) = (self.block, self.text);
+        if self.call >= CALLS {
+            return Err(NOT_CARRIED);
+        }
         if text.len() > LONGEST_STRING {
             return Err(LONG_STRING);
         }
@@ -605,13 +643,18 @@ impl Reply<'_> {
         }
         let end: &[u8] = if fields.line { &[STRING_END] } else { &[] };
         let (head, tail) = (fields.head.as_slice(), fields.tail.as_slice());
-        put_serial(out, &[], [head, block, text, end, tail])
+        let parts = [head, block, text, end, tail];
+        match self.carrier {
+            SERIAL => put_serial(out, &[], parts),
+            PARALLEL => put_parallel(out, &[], parts),
+            _ => Err(BROKEN_RULE),
+        }
     }
 }
 
 #[cfg(test)]
 mod tests {
-    use super::serial::{Read, Reader, SERIAL};
+    use super::serial::{Read, Reader, asked};
     use super::*;
 
     const MORE: Told = Told::More;
@@ -680,9 +723,10 @@ mod tests {
         Told::Error { number, length }
     }
 
-    /// A reply of a call with nothing in it.
+    /// A serial reply of a call with nothing in it.
     fn blank(call: u8, reply: u8) -> Reply<'static> {
         Reply {
+            carrier: SERIAL,
             call,
             out_length: 0,
             reply,
@@ -985,8 +1029,7 @@ mod tests {
         assert_eq!(bench.step(1), MORE);
         let link = bench.link;
         for call in 0..=255 {
-            let number = if call < CALLS { 12 } else { 7 };
-            assert_eq!(bench.link.begin(call, 0), Begun::Refused(number));
+            assert_eq!(bench.link.begin(call, 0), Begun::Refused(12));
             assert_eq!(bench.link, link);
         }
         assert_eq!(bench.last(&[0x9B, 0xA0]), Told::Refused(4));
@@ -995,6 +1038,14 @@ mod tests {
             assert_eq!(bench.link.begin(call, 1), Begun::Refused(7));
             assert_eq!(bench.link, link);
         }
+        let mut bench = Bench::new();
+        assert_eq!(bench.last(&[0x9B, 0x90, 1, 0x9B]), MORE);
+        let link = bench.link;
+        for call in CALLS..=255 {
+            assert_eq!(bench.link.begin(call, 1), Begun::Refused(4));
+            assert_eq!(bench.link, link);
+        }
+        assert_eq!(bench.last(&[0x9B, 2]), Told::Event([1, 0x9B, 2]));
     }
 
     #[test]
@@ -1148,10 +1199,115 @@ mod tests {
         }
     }
 
+    // ---- Replies on the parallel side ----
+
+    /// Takes bytes of a reply from the first on: the last answer, all before it
+    /// being that more follow, and the bytes lent.
+    fn take_all(kind: (u8, u8), bytes: &[u8]) -> (ReplyByte, [u8; LENT]) {
+        let (mut reply, mut count) = ([0xEE; LENT], 0);
+        let mut last = ReplyByte::More;
+        for (at, &byte) in bytes.iter().enumerate() {
+            assert_eq!(last, ReplyByte::More);
+            last = reply_step(kind, &mut count, byte, &mut reply);
+            let taken = !matches!(last, ReplyByte::Refused(_));
+            assert_eq!(count, at + taken as usize);
+        }
+        assert_eq!(reply[..count], bytes[..count]);
+        assert!(reply[count..].iter().all(|&byte| byte == 0xEE));
+        (last, reply)
+    }
+
+    #[test]
+    fn parallel_replies_end_at_their_last_byte() {
+        for call in 0..CALLS {
+            for out_length in [1, 2, 255] {
+                let length = match call {
+                    OSWORD => out_length as usize,
+                    OSWORD_0 => 3,
+                    _ => MOST[call as usize],
+                };
+                let mut plain = vec![0x1B; length];
+                plain[1.min(length - 1)] = 0x9B;
+                if call == OSWORD_0 {
+                    plain[2] = 0x0D;
+                }
+                let kind = (call, out_length);
+                assert_eq!(take_all(kind, &plain).0, ReplyByte::Last);
+                if length > 1 {
+                    assert_eq!(take_all(kind, &plain[..length - 1]).0, ReplyByte::More);
+                }
+            }
+        }
+        for first in 0..=255 {
+            let last = match first {
+                ..0x80 => ReplyByte::More,
+                _ => ReplyByte::Last,
+            };
+            assert_eq!(take_all((OSWORD_0, 0), &[first]).0, last);
+        }
+    }
+
+    #[test]
+    fn the_256th_line_byte_on_the_parallel_side() {
+        let line = [&[0x7F][..], &[0x9B; 255]].concat();
+        for (byte, answer) in [
+            (0x0D, ReplyByte::Last),
+            (0x9B, ReplyByte::Refused(6)),
+            (0x00, ReplyByte::Refused(6)),
+        ] {
+            let bytes = [&line[..], &[byte]].concat();
+            assert_eq!(take_all((OSWORD_0, 7), &bytes).0, answer);
+        }
+    }
+
+    #[test]
+    fn refused_reply_bytes() {
+        let step = |kind: (u8, u8), count: usize, byte: u8| {
+            let (mut after, mut reply) = (count, [0xEE; LENT]);
+            let answer = reply_step(kind, &mut after, byte, &mut reply);
+            let ReplyByte::Refused(number) = answer else {
+                return None;
+            };
+            assert_eq!(after, count);
+            assert!(reply.iter().all(|&byte| byte == 0xEE));
+            Some(number)
+        };
+        for byte in [0x00, 0x0D, 0x80, 0x9B] {
+            for call in 0..CALLS {
+                let most = match call {
+                    OSWORD => 9,
+                    _ => MOST[call as usize],
+                };
+                for count in [most, most + 1, LENT, LENT + 1, 256 + most, 0xFFFF] {
+                    if count >= most {
+                        assert_eq!(step((call, 9), count, byte), Some(7));
+                    }
+                }
+                let line = call == OSWORD_0 && byte != 0x0D;
+                let last = if line { Some(6) } else { None };
+                assert_eq!(step((call, 9), most - 1, byte), last);
+                assert_eq!(step((call, 9), 0, byte), None);
+            }
+            assert_eq!(step((OSWORD, 0), 0, byte), Some(7));
+            for call in CALLS..=255 {
+                for count in [0, 1, LENT, 0xFFFF] {
+                    assert_eq!(step((call, 9), count, byte), Some(4));
+                }
+            }
+        }
+    }
+
     // ---- The writer and the fields ----
 
     /// The reply read again from its encoding; `bytes` are its plain bytes.
     fn read_back(reply: &Reply, encoding: &[u8], bytes: &[u8]) -> Given {
+        if reply.carrier == PARALLEL {
+            let kind = (reply.call, reply.out_length);
+            let (last, read) = take_all(kind, encoding);
+            assert_eq!(last, ReplyByte::Last);
+            assert_eq!(encoding, bytes);
+            return given(reply.call, &read[..bytes.len()]);
+        }
         let mut bench = Bench::waiting(reply.call, reply.out_length);
         assert_eq!(bench.last(encoding), Told::Reply(bytes.len()));
         assert_eq!(bench.reply[..bytes.len()], *bytes);
@@ -1200,8 +1356,12 @@ mod tests {
                 [&block[..13], &[0x80, 0x9B]].concat(),
             ),
         ];
-        for (call, reply, block, text, plain) in cases {
+        let carried = cases
+            .iter()
+            .flat_map(|case| [(SERIAL, case), (PARALLEL, case)]);
+        for (carrier, &(call, reply, block, text, ref plain)) in carried {
             let written = Reply {
+                carrier,
                 call,
                 out_length: 0x9B,
                 reply,
@@ -1214,10 +1374,13 @@ mod tests {
             };
             let mut out = vec![0xDD; 600];
             let size = written.write(&mut out).unwrap();
-            let doubled = plain.iter().filter(|&&byte| byte == 0x9B).count();
+            let doubled = match carrier {
+                SERIAL => plain.iter().filter(|&&byte| byte == 0x9B).count(),
+                _ => 0,
+            };
             assert_eq!(size, plain.len() + doubled);
             assert!(out[size..].iter().all(|&byte| byte == 0xDD));
-            let read = read_back(&written, &out[..size], &plain);
+            let read = read_back(&written, &out[..size], plain);
             assert_eq!(read.reply, reply);
             let numbers = match reply {
                 CARRY_A | BLOCK_CARRY_A => (true, 0, 0, 0x9B),
@@ -1280,15 +1443,28 @@ mod tests {
                     _ => 0,
                 };
                 let block = &[0; 16][..length];
-                let written = Reply {
-                    block,
-                    ..blank(call, reply)
-                };
-                let fits = written.write(&mut [0; 40]) != Err(9);
-                assert_eq!(fits, good.contains(&(call, reply)));
                 let text = &[0; 256];
-                let long = Reply { text, ..written };
-                assert_eq!(long.write(&mut [0; 600]), Err(6));
+                for carrier in [SERIAL, PARALLEL, 2, 255] {
+                    let written = Reply {
+                        carrier,
+                        block,
+                        ..blank(call, reply)
+                    };
+                    let fits = good.contains(&(call, reply)) && carrier <= PARALLEL;
+                    let answer = match written.write(&mut [0; 40]) {
+                        Ok(_) => 0,
+                        Err(number) => number,
+                    };
+                    let expected = match call {
+                        CALLS.. => 4,
+                        _ if fits => 0,
+                        _ => 9,
+                    };
+                    assert_eq!(answer, expected);
+                    let long = Reply { text, ..written };
+                    let number = if call < CALLS { 6 } else { 4 };
+                    assert_eq!(long.write(&mut [0; 600]), Err(number));
+                }
             }
         }
     }
@@ -1344,13 +1520,19 @@ mod tests {
             assert_eq!((given.x, given.y, given.a), (0, 0, 0));
             assert_eq!((given.block, given.text), (0..0, 0..0));
         }
-        assert_eq!(given(OSWORD_0, &[0x00]).text, 0..0);
+        assert_eq!(given(OSWORD_0, &[0x00]).text, 1..1);
+        assert_eq!(given(OSARGS, &[0x07]).block, 1..1);
+        assert_eq!(given(OSFILE, &[0x07; 3]).block, 1..3);
         assert_eq!(given(OSWORD_0, &[0x00, 0x0D]).text, 1..1);
         assert_eq!(given(OSWORD_0, &[0x80, 0x0D]).reply, ESCAPED);
         assert_eq!(given(OSGBPB, &[0xFF; 12]).block, 0..12);
         let gbpb = given(OSGBPB, &[0xFF; 14]);
         assert_eq!((gbpb.block, gbpb.carry, gbpb.a), (0..13, true, 0));
-        assert_eq!(given(CALLS, &[0xFF; 20]).reply, NO_REPLY);
+        let none = Given {
+            reply: NO_REPLY,
+            ..Given::default()
+        };
+        assert_eq!(given(CALLS, &[0xFF; 20]), none);
     }
 
     #[test]
@@ -1366,11 +1548,13 @@ mod tests {
             };
             let out_length = if call as u8 == OSWORD { 9 } else { 0 };
             assert_eq!(kind_of(code, &body), (call as u8, out_length));
+            let asked = asked(code, &body);
+            assert_eq!((asked.call, asked.out_length), (call as u8, out_length));
         }
         assert_eq!(kind_of(0x08, &[]), (OSWORD, 0));
         assert_eq!(kind_of(0x12, &[]), (OSFIND_CLOSE, 0));
         for code in (0..=255).filter(|code| !codes.contains(code)) {
-            assert_eq!(kind_of(code, &[1]), (OSRDCH, 0));
+            assert_eq!(kind_of(code, &[1]), (NO_CALL, 0));
         }
     }
 }

@@ -1,7 +1,10 @@
 //! A second program for the requests of the serial protocol: the escape layer,
-//! the stepwise reader and the writer, on the serial and the parallel carrier.
+//! the stepwise reader, the fields of a request read and the writer, on the serial
+//! and the parallel carrier.
 //! It is written from the rules and shares nothing with the proved library; one
 //! reading was settled after a comparison with it (see `Reader::read`).
+
+use std::ops::Range;
 
 // Carriers.
 pub const SERIAL: u8 = 0;
@@ -23,7 +26,28 @@ pub const BROKEN_RULE: u8 = 9;
 pub const ESCAPE: u8 = 0x9B;
 pub const STRING_END: u8 = 0x0D;
 pub const LONGEST_STRING: usize = 255;
-const FILE_BLOCK: usize = 16;
+
+// Calls.
+pub const OSRDCH: u8 = 0;
+pub const OSCLI: u8 = 1;
+pub const OSBYTE_LOW: u8 = 2;
+pub const OSBYTE_HIGH: u8 = 3;
+pub const OSWORD: u8 = 4;
+pub const OSWORD_0: u8 = 5;
+pub const OSARGS: u8 = 6;
+pub const OSBGET: u8 = 7;
+pub const OSBPUT: u8 = 8;
+pub const OSFIND_CLOSE: u8 = 9;
+pub const OSFIND_OPEN: u8 = 10;
+pub const OSFILE: u8 = 11;
+pub const OSGBPB: u8 = 12;
+
+/// What a code that no request has gives instead of a call.
+pub const NO_CALL: u8 = 255;
+
+pub const ARGS_BLOCK: usize = 4;
+pub const FILE_BLOCK: usize = 16;
+pub const GBPB_BLOCK: usize = 13;
 
 const LAST_CODE: u8 = 0x16;
 const LAST_STYLE: u8 = 3;
@@ -103,7 +127,7 @@ impl Reader {
     #[inline]
     pub fn stopped(&self) -> bool {
         match (self.phase, self.carrier) {
-            (OUTSIDE, carrier) => carrier > PARALLEL,
+            (OUTSIDE, SERIAL | PARALLEL) => (self.style, self.code, self.count) != (0, 0, 0),
             (INSIDE, SERIAL) => self.style > LAST_STYLE || self.beyond(),
             (INSIDE, PARALLEL) => self.style != 0 || self.beyond(),
             _ => true,
@@ -255,6 +279,106 @@ pub fn file_name(body: &[u8]) -> Result<usize, u8> {
     }
 }
 
+// ---- The fields of a request ----
+
+/// The fields of a request that was read; 0, or an empty range at 0, where its
+/// call has none.
+#[derive(Clone, PartialEq, Default, Debug)]
+pub struct Asked {
+    pub call: u8,
+    pub x: u8,
+    pub y: u8,
+    pub a: u8,
+    pub out_length: u8,
+    pub block: Range<usize>,
+    pub text: Range<usize>,
+}
+
+/// Takes the body of a request apart. It may be unfinished: a byte that is not
+/// there counts as 0, and a part starts and ends where the body ends at the latest.
+pub fn asked(code: u8, body: &[u8]) -> Asked {
+    let byte = |at: usize| body.get(at).copied().unwrap_or(0);
+    let last = body.last().copied().unwrap_or(0);
+    // What follows the first `before` bytes, up to the last `behind`.
+    let between = |before: usize, behind: usize| {
+        let start = before.min(body.len());
+        start..body.len().saturating_sub(behind).max(start)
+    };
+    let of = |call: u8| Asked {
+        call,
+        ..Asked::default()
+    };
+    match code {
+        0x00 => of(OSRDCH),
+        0x02 => Asked {
+            text: between(0, 1),
+            ..of(OSCLI)
+        },
+        0x04 => Asked {
+            x: byte(0),
+            a: byte(1),
+            ..of(OSBYTE_LOW)
+        },
+        0x06 => Asked {
+            x: byte(0),
+            y: byte(1),
+            a: byte(2),
+            ..of(OSBYTE_HIGH)
+        },
+        0x08 => Asked {
+            a: byte(0),
+            block: between(2, 1),
+            out_length: last,
+            ..of(OSWORD)
+        },
+        0x0A => Asked {
+            block: between(0, 0),
+            ..of(OSWORD_0)
+        },
+        0x0C => Asked {
+            y: byte(0),
+            block: first(between(1, 0), ARGS_BLOCK),
+            a: byte(5),
+            ..of(OSARGS)
+        },
+        0x0E => Asked {
+            y: byte(0),
+            ..of(OSBGET)
+        },
+        0x10 => Asked {
+            y: byte(0),
+            a: byte(1),
+            ..of(OSBPUT)
+        },
+        0x12 if byte(0) == 0 => Asked {
+            y: byte(1),
+            ..of(OSFIND_CLOSE)
+        },
+        0x12 => Asked {
+            a: byte(0),
+            text: between(1, 1),
+            ..of(OSFIND_OPEN)
+        },
+        0x14 => Asked {
+            block: first(between(0, 0), FILE_BLOCK),
+            text: between(FILE_BLOCK, 2),
+            a: last,
+            ..of(OSFILE)
+        },
+        0x16 => Asked {
+            block: first(between(0, 0), GBPB_BLOCK),
+            a: byte(13),
+            ..of(OSGBPB)
+        },
+        _ => of(NO_CALL),
+    }
+}
+
+/// The first bytes of a range, at most so many.
+fn first(range: Range<usize>, most: usize) -> Range<usize> {
+    range.start..range.end.min(range.start + most)
+}
+
 // ---- The writer ----
 
 /// A request to be written. Numbers that the call does not have are ignored.
@@ -262,9 +386,6 @@ pub fn file_name(body: &[u8]) -> Result<usize, u8> {
 pub struct Request<'a> {
     pub carrier: u8,
     pub style: u8,
-    /// 0 OSRDCHIO, 1 OSCLI, 2 OSBYTE low, 3 OSBYTE high, 4 OSWORD, 5 OSWORD 0,
-    /// 6 OSARGS, 7 OSBGET, 8 OSBPUT, 9 OSFIND close, 10 OSFIND open, 11 OSFILE,
-    /// 12 OSGBPB.
     pub call: u8,
     pub x: u8,
     pub y: u8,
@@ -332,25 +453,27 @@ impl Request<'_> {
     fn fields(&self) -> Option<Fields> {
         let Request { x, y, a, .. } = *self;
         let fields = match self.call {
-            0 => Fields::new(0x00, &[]),
-            1 => Fields::new(0x02, &[]).string(),
-            2 => Fields::new(0x04, &[x, a]).only_if(a < 0x80),
-            3 => Fields::new(0x06, &[x, y, a]).only_if(a >= 0x80),
-            4 => Fields::new(0x08, &[a, self.block.len() as u8])
+            OSRDCH => Fields::new(0x00, &[]),
+            OSCLI => Fields::new(0x02, &[]).string(),
+            OSBYTE_LOW => Fields::new(0x04, &[x, a]).only_if(a < 0x80),
+            OSBYTE_HIGH => Fields::new(0x06, &[x, y, a]).only_if(a >= 0x80),
+            OSWORD => Fields::new(0x08, &[a, self.block.len() as u8])
                 .block(0, 255)
                 .tail(self.out_length)
                 .only_if(a != 0),
-            5 => Fields::new(0x0A, &[]).block(5, 5),
-            6 => Fields::new(0x0C, &[y]).block(4, 4).tail(a),
-            7 => Fields::new(0x0E, &[y]),
-            8 => Fields::new(0x10, &[y, a]),
-            9 => Fields::new(0x12, &[0, y]),
-            10 => Fields::new(0x12, &[a]).string().only_if(a != 0),
-            11 => Fields::new(0x14, &[])
+            OSWORD_0 => Fields::new(0x0A, &[]).block(5, 5),
+            OSARGS => Fields::new(0x0C, &[y])
+                .block(ARGS_BLOCK, ARGS_BLOCK)
+                .tail(a),
+            OSBGET => Fields::new(0x0E, &[y]),
+            OSBPUT => Fields::new(0x10, &[y, a]),
+            OSFIND_CLOSE => Fields::new(0x12, &[0, y]),
+            OSFIND_OPEN => Fields::new(0x12, &[a]).string().only_if(a != 0),
+            OSFILE => Fields::new(0x14, &[])
                 .block(FILE_BLOCK, FILE_BLOCK)
                 .string()
                 .tail(a),
-            12 => Fields::new(0x16, &[]).block(13, 13).tail(a),
+            OSGBPB => Fields::new(0x16, &[]).block(GBPB_BLOCK, GBPB_BLOCK).tail(a),
             _ => return None,
         };
         Some(fields)
@@ -360,6 +483,7 @@ impl Request<'_> {
     /// the refusal.
     pub fn write(&self, out: &mut [u8]) -> Result<usize, u8> {
         let (block, text) = (self.block, self.text);
+        let fields = self.fields().ok_or(NOT_CARRIED)?;
         if text.len() > LONGEST_STRING {
             return Err(LONG_STRING);
         }
@@ -368,7 +492,6 @@ impl Request<'_> {
             PARALLEL => 0,
             _ => return Err(BROKEN_RULE),
         };
-        let fields = self.fields().ok_or(BROKEN_RULE)?;
         let (least, most) = fields.block;
         if self.style > last_style
             || !fields.good
@@ -384,19 +507,28 @@ impl Request<'_> {
         let end: &[u8] = if fields.string { &[STRING_END] } else { &[] };
         let parts = [head, block, text, end, fields.tail.as_slice()];
         if self.carrier == PARALLEL {
-            let size = 1 + parts.iter().map(|part| part.len()).sum::<usize>();
-            let out = out.get_mut(..size).ok_or(SHORT_BUFFER)?;
-            out[0] = fields.code;
-            put_plain(&mut out[1..], parts);
-            return Ok(size);
+            return put_parallel(out, &[fields.code], parts);
         }
         put_serial(out, &[ESCAPE, self.style << 5 | fields.code], parts)
     }
 }
 
+/// Puts bytes to the start of `out` as they are: the length, or the refusal where
+/// they do not fit.
+#[inline(always)]
+pub fn put_parallel(out: &mut [u8], heading: &[u8], parts: [&[u8]; 5]) -> Result<usize, u8> {
+    let plain: usize = parts.iter().map(|part| part.len()).sum();
+    let size = heading.len() + plain;
+    let out = out.get_mut(..size).ok_or(SHORT_BUFFER)?;
+    let (start, rest) = out.split_at_mut(heading.len());
+    start.copy_from_slice(heading);
+    put_plain(rest, parts);
+    Ok(size)
+}
+
 /// Puts raw bytes and then data bytes to the start of `out`: the length, or the
 /// refusal where they do not fit.
-#[inline]
+#[inline(always)]
 pub fn put_serial(out: &mut [u8], heading: &[u8], parts: [&[u8]; 5]) -> Result<usize, u8> {
     let plain: usize = parts.iter().map(|part| part.len()).sum();
     let doubled: usize = parts.iter().map(|part| escapes(part)).sum();
@@ -626,6 +758,20 @@ mod tests {
                 let (_, body) = read(carrier, &out[..size]);
                 assert_eq!(body[..plain.len()], plain);
                 assert!(body[plain.len()..].iter().all(|&byte| byte == 0xEE));
+                let asked = asked(code, &plain);
+                let numbers = match call {
+                    OSBYTE_LOW => (0x9B, 0, a, 0),
+                    OSBYTE_HIGH => (0x9B, 8, a, 0),
+                    OSWORD => (0, 0, a, 0x9B),
+                    OSARGS | OSBPUT => (0, 8, a, 0),
+                    OSBGET | OSFIND_CLOSE => (0, 8, 0, 0),
+                    OSFIND_OPEN | OSFILE | OSGBPB => (0, 0, a, 0),
+                    _ => (0, 0, 0, 0),
+                };
+                assert_eq!(asked.call, call);
+                assert_eq!((asked.x, asked.y, asked.a, asked.out_length), numbers);
+                assert_eq!(plain[asked.block], *block);
+                assert_eq!(plain[asked.text], *text);
 
                 let mut short = vec![0xDD; size - 1];
                 assert_eq!(written.write(&mut short), Err(8));
@@ -690,12 +836,30 @@ mod tests {
             stream.push(0x20);
             assert_eq!(last(PARALLEL, &stream), Read::Refused(6));
         }
-        let long = Request {
-            style: 9,
-            text: &[0x0D; 256],
-            ..blank(7, 200)
+    }
+
+    #[test]
+    fn the_first_refusal_that_applies() {
+        let bad = |carrier: u8, call: u8, length: usize| {
+            Request {
+                style: 9,
+                text: &[0x0D; 256][..length],
+                ..blank(carrier, call)
+            }
+            .write(&mut [])
         };
-        assert_eq!(long.write(&mut []), Err(6));
+        for carrier in [SERIAL, PARALLEL, 2, 255] {
+            for call in 0..=255 {
+                let (long, given) = match call {
+                    ..=OSGBPB => (6, 9),
+                    _ => (4, 4),
+                };
+                assert_eq!(bad(carrier, call, 256), Err(long));
+                assert_eq!(bad(carrier, call, 255), Err(given));
+                assert_eq!(bad(carrier, call, 0), Err(given));
+            }
+        }
+        assert_eq!(blank(2, OSRDCH).write(&mut [0; 9]), Err(9));
     }
 
     #[test]
@@ -719,6 +883,55 @@ mod tests {
             assert_eq!(reader.read(raw, &mut body), Read::Refused(7));
         }
         assert_eq!(reader, stopped);
+    }
+
+    #[test]
+    fn fields_of_unfinished_bodies() {
+        let codes = (0..12).map(|half| 2 * half);
+        for code in codes.clone() {
+            let call = code / 2 + (code > 0x12) as u8;
+            let nothing = Asked {
+                call,
+                ..Asked::default()
+            };
+            assert_eq!(asked(code, &[]), nothing);
+        }
+        for code in (0..=255).filter(|&code| !codes.clone().any(|one| one == code)) {
+            let none = Asked {
+                call: NO_CALL,
+                ..Asked::default()
+            };
+            assert_eq!(asked(code, &[1; 300]), none);
+        }
+        let parts = |code: u8, length: usize| {
+            let asked = asked(code, &[7; 300][..length]);
+            (asked.block, asked.text)
+        };
+        assert_eq!(parts(0x02, 1), (0..0, 0..0));
+        assert_eq!(parts(0x02, 300), (0..0, 0..299));
+        assert_eq!(parts(0x08, 1), (1..1, 0..0));
+        assert_eq!(parts(0x08, 2), (2..2, 0..0));
+        assert_eq!(parts(0x08, 4), (2..3, 0..0));
+        assert_eq!(parts(0x0A, 3), (0..3, 0..0));
+        assert_eq!(parts(0x0A, 9), (0..9, 0..0));
+        assert_eq!(parts(0x0C, 3), (1..3, 0..0));
+        assert_eq!(parts(0x0C, 9), (1..5, 0..0));
+        assert_eq!(parts(0x12, 1), (0..0, 1..1));
+        assert_eq!(parts(0x12, 3), (0..0, 1..2));
+        assert_eq!(parts(0x14, 9), (0..9, 9..9));
+        assert_eq!(parts(0x14, 17), (0..16, 16..16));
+        assert_eq!(parts(0x14, 20), (0..16, 16..18));
+        assert_eq!(parts(0x16, 5), (0..5, 0..0));
+        assert_eq!(parts(0x16, 20), (0..13, 0..0));
+
+        let osword = asked(0x08, &[9]);
+        assert_eq!((osword.a, osword.out_length), (9, 9));
+        assert_eq!(asked(0x14, &[1, 2, 3]).a, 3);
+        assert_eq!(asked(0x16, &[1; 13]).a, 0);
+        let osargs = asked(0x0C, &[1, 2, 3, 4, 5, 6, 7]);
+        assert_eq!((osargs.y, osargs.a), (1, 6));
+        let close = asked(0x12, &[0, 3, 4]);
+        assert_eq!((close.call, close.y, close.a), (OSFIND_CLOSE, 3, 0));
     }
 
     #[test]
@@ -758,8 +971,13 @@ mod tests {
         }
         assert!(stopped(SERIAL, INSIDE, 0, 0x00, 0));
         assert!(stopped(SERIAL, INSIDE, 0, 0x18, 0));
-        assert!(!stopped(SERIAL, OUTSIDE, 255, 255, usize::MAX));
-        assert!(!stopped(PARALLEL, OUTSIDE, 255, 255, usize::MAX));
+        for carrier in [SERIAL, PARALLEL] {
+            assert!(!stopped(carrier, OUTSIDE, 0, 0, 0));
+            assert!(stopped(carrier, OUTSIDE, 1, 0, 0));
+            assert!(stopped(carrier, OUTSIDE, 0, 2, 0));
+            assert!(stopped(carrier, OUTSIDE, 0, 0, 1));
+            assert!(stopped(carrier, OUTSIDE, 0, 0, 0x1_0000));
+        }
         assert!(stopped(2, OUTSIDE, 0, 0, 0));
         assert!(stopped(SERIAL, STOPPED, 0, 0, 0));
         assert!(stopped(SERIAL, 3, 0, 0, 0));

@@ -74,12 +74,14 @@ static size_t length_of(void) {
 /* ---- Properties ---- */
 
 enum {
-    ACCESS, NEW, RESET, LINES, PLAY, TEXT, READER, READ, FEED, WRITE_REQUEST, KIND_OF, FILE_NAME, LINK, BEGIN, LINK_STEP, RUN, WRITE_REPLY, READ_REPLY, EXPORTS
+    ACCESS, NEW, RESET, LINES, PLAY, TEXT, READER, READ, FEED, WRITE_REQUEST, KIND_OF, READ_REQUEST, FILE_NAME, LINK, BEGIN, LINK_STEP, RUN, WRITE_REPLY,
+    REPLY_STEP, READ_REPLY, EXPORTS
 };
 
 static const char *const exports[EXPORTS] = {
     "tube_access", "tube_new", "tube_reset", "tube_lines", "tube_play", "tube_text", "tube_reader", "tube_read", "tube_feed", "tube_write_request",
-    "tube_kind_of", "tube_file_name", "tube_link", "tube_begin", "tube_link_step", "tube_run", "tube_write_reply", "tube_read_reply"};
+    "tube_kind_of", "tube_read_request", "tube_file_name", "tube_link", "tube_begin", "tube_link_step", "tube_run", "tube_write_reply", "tube_reply_step",
+    "tube_read_reply"};
 
 enum { INSIDE, STAYS, SOUND, KINDS };
 
@@ -90,9 +92,13 @@ static struct {
     char first[120]; /* where it first failed */
 } found[EXPORTS][KINDS];
 
-/* The answers that each export has, and those that came up. Of a reader and a link they are the refusals' numbers, and 16 and more by kind. */
+/* The answers that each export has, and those that came up. Of a reader and a link they are the refusals' numbers, and 16 and more by kind; of what
+ * is taken apart 16 and more by call or form. */
 #define BIT(n) (1ul << (n))
-#define WRITER (BIT(TUBE_DONE) | BIT(TUBE_STRING_LONG) | BIT(TUBE_BUFFER_SHORT) | BIT(TUBE_BAD_FIELD))
+#define WRITER (BIT(TUBE_DONE) | BIT(TUBE_UNKNOWN_CODE) | BIT(TUBE_STRING_LONG) | BIT(TUBE_BUFFER_SHORT) | BIT(TUBE_BAD_FIELD))
+#define NO_CALL 15 /* stands for TUBE_NO_CALL, behind the calls */
+#define ALL_CALLS (((1ul << TUBE_CALLS) - 1) << 16 | BIT(16 + NO_CALL))
+#define ALL_FORMS (((1ul << (TUBE_REPLY_NONE + 1)) - 1) << 16)
 #define READER_KINDS (BIT(16 + TUBE_NEED_MORE) | BIT(16 + TUBE_CHARACTER) | BIT(16 + TUBE_REQUEST) | BIT(16 + TUBE_REFUSED))
 #define READER_REFUSALS (BIT(TUBE_UNKNOWN_CODE) | BIT(TUBE_MARK_INSIDE) | BIT(TUBE_STRING_LONG) | BIT(TUBE_STOPPED) | BIT(TUBE_BAD_FIELD))
 #define LINK_REFUSALS (BIT(TUBE_UNKNOWN_CODE) | BIT(TUBE_MARK_INSIDE) | BIT(TUBE_STRING_LONG) | BIT(TUBE_STOPPED))
@@ -103,11 +109,15 @@ static const unsigned long has[EXPORTS] = {
     [READ] = READER_KINDS | READER_REFUSALS,
     [FEED] = READER_KINDS | READER_REFUSALS,
     [WRITE_REQUEST] = WRITER,
+    [KIND_OF] = ALL_CALLS,
+    [READ_REQUEST] = ALL_CALLS,
     [FILE_NAME] = BIT(TUBE_DONE) | BIT(TUBE_STRING_LONG) | BIT(TUBE_BAD_FIELD),
-    [BEGIN] = BIT(TUBE_DONE) | BIT(TUBE_STOPPED) | BIT(TUBE_CALL_WAITS) | BIT(16 + TUBE_BEGUN) | BIT(16 + TUBE_COMPLETE) | BIT(16 + TUBE_DENIED),
+    [BEGIN] = BIT(TUBE_DONE) | BIT(TUBE_UNKNOWN_CODE) | BIT(TUBE_STOPPED) | BIT(TUBE_CALL_WAITS) | BIT(16 + TUBE_BEGUN) | BIT(16 + TUBE_COMPLETE) | BIT(16 + TUBE_DENIED),
     [LINK_STEP] = LINK_REFUSALS | 0x1FFul << 16,
     [RUN] = LINK_REFUSALS | BIT(TUBE_BUFFER_SHORT) | BIT(16 + TUBE_TOLD_MORE) | 0xFul << (16 + TUBE_TOLD_REPLY),
     [WRITE_REPLY] = WRITER,
+    [REPLY_STEP] = BIT(TUBE_UNKNOWN_CODE) | BIT(TUBE_STRING_LONG) | BIT(TUBE_STOPPED) | BIT(16 + TUBE_TAKEN_MORE) | BIT(16 + TUBE_TAKEN_LAST) | BIT(16 + TUBE_TAKEN_REFUSED),
+    [READ_REPLY] = ALL_FORMS,
 };
 
 static unsigned long seen[EXPORTS];
@@ -304,7 +314,19 @@ static TubeReader any_reader(void) {
     r.code = below(12) == 0 ? byte() : (uint8_t)(2 + 2 * below(11));
     static const size_t longest[12] = {1, 256, 2, 3, 258, 5, 6, 1, 2, 257, 273, 14};
     r.count = (uint16_t)count(r.code <= TUBE_CODE_OSGBPB ? longest[r.code / 2] : 273);
+    if (r.phase == TUBE_OUTSIDE) {
+        /* All 0 in half of the cases; else one of them is any number, or all are. */
+        size_t odd = below(8);
+        r.style = odd < 2 ? r.style : 0;
+        r.code = odd % 2 == 0 && odd < 4 ? r.code : 0;
+        r.count = odd == 0 || odd == 3 ? r.count : 0;
+    }
     return r;
+}
+
+/* Whether a reader outside a request is beyond its limits. */
+static int odd_outside(TubeReader r) {
+    return r.phase == TUBE_OUTSIDE && (r.style != 0 || r.code != 0 || r.count != 0);
 }
 
 static int same_reader(TubeReader a, TubeReader b) {
@@ -317,6 +339,8 @@ static size_t body_place(TubeReader r) {
 }
 
 static int sound_read(TubeRead r, TubeReader given) {
+    if (odd_outside(r.reader) && !odd_outside(given))
+        return 0;
     switch (r.kind) {
     case TUBE_NEED_MORE: return r.length == 0 && r.value == 0 && r.style == 0 && r.code == 0;
     case TUBE_CHARACTER: return r.length == 0 && r.style == 0 && r.code == 0;
@@ -344,7 +368,7 @@ static void try_read(void) {
     size_t place = body_place(given);
     check(INSIDE, stays(0, 0, TUBE_BODY));
     check(STAYS, r.kind == TUBE_REFUSED || r.kind == TUBE_CHARACTER ? all_stay(0) : stays(0, place, at_most(place + 1, TUBE_BODY)));
-    check(SOUND, sound_read(r, given));
+    check(SOUND, sound_read(r, given) && (!odd_outside(given) || (r.kind == TUBE_REFUSED && r.value == TUBE_STOPPED)));
 }
 
 static void try_feed(void) {
@@ -361,7 +385,8 @@ static void try_feed(void) {
     check(INSIDE, stays(1, 0, TUBE_BODY));
     check(STAYS, all_stay(0) && stays(1, place, at_most(place + f.used, TUBE_BODY)));
     check(SOUND, sound_read(f.read, given) && f.used <= length && (f.read.kind == TUBE_NEED_MORE ? f.used == length : f.used > 0)
-                     && (length > 0 || same_reader(f.read.reader, given)));
+                     && (length > 0 || same_reader(f.read.reader, given))
+                     && (!odd_outside(given) || length == 0 || (f.read.kind == TUBE_REFUSED && f.read.value == TUBE_STOPPED && f.used == 1)));
     kept = f.read.kind == TUBE_REFUSED ? tube_reader(tag(2)) : f.read.reader;
 }
 
@@ -370,10 +395,20 @@ static size_t room_for(size_t need) {
     return below(4) == 0 || need == 0 ? length_of() : need + below(3) - 1;
 }
 
-static int sound_written(TubeWritten w, TubeWritten whole, size_t room) {
+/* What a writer answers, given what it answers with room enough: 4 before 6 before 9 before 8. */
+static int sound_written(TubeWritten w, TubeWritten whole, size_t room, uint8_t call, size_t text_length) {
+    if (call >= TUBE_CALLS || text_length > TUBE_STRING_LIMIT)
+        return w.answer == (call >= TUBE_CALLS ? TUBE_UNKNOWN_CODE : TUBE_STRING_LONG) && w.length == 0;
     if (whole.answer != TUBE_DONE)
-        return w.answer == whole.answer && w.length == 0 && (w.answer == TUBE_STRING_LONG || w.answer == TUBE_BAD_FIELD);
+        return w.answer == TUBE_BAD_FIELD && whole.answer == TUBE_BAD_FIELD && w.length == 0;
     return room < whole.length ? w.answer == TUBE_BUFFER_SHORT && w.length == 0 : w.answer == TUBE_DONE && w.length == whole.length;
+}
+
+/* Whether a request written is read again as one, at its last byte. */
+static int request_reads(uint8_t carrier, uint8_t style, const uint8_t *bytes, size_t length) {
+    static uint8_t body[TUBE_BODY];
+    TubeFed f = tube_feed(tube_reader(carrier), bytes, length, body);
+    return f.read.kind == TUBE_REQUEST && f.used == length && f.read.style == style && f.read.length + 1 <= length;
 }
 
 static void try_write_request(void) {
@@ -398,16 +433,74 @@ static void try_write_request(void) {
     came(w.answer);
     check(INSIDE, stays(2, 0, room));
     check(STAYS, all_stay(0) && all_stay(1) && stays(2, 0, at_most(w.length, room)));
-    check(SOUND, sound_written(w, whole, room) && memcmp(out, large, at_most(w.length, room)) == 0);
+    check(SOUND, sound_written(w, whole, room, call, text_length) && memcmp(out, large, at_most(w.length, room)) == 0
+                     && (whole.answer != TUBE_DONE || request_reads(carrier, style, large, whole.length)));
+}
+
+/* A request's code in half of the cases. */
+static uint8_t any_code(void) {
+    return below(2) ? (uint8_t)(2 * below(12)) : byte();
+}
+
+static int is_code(uint8_t code) {
+    return code <= TUBE_CODE_OSGBPB && code % 2 == 0;
 }
 
 static void try_kind_of(void) {
     size_t length = length_of();
     const uint8_t *body = lend(0, length);
     filled(0);
-    TubeKind k = tube_kind_of(below(2) ? (uint8_t)(2 * below(12)) : byte(), body, length);
+    uint8_t code = any_code();
+    TubeKind k = tube_kind_of(code, body, length);
+    came(16 + (k.call == TUBE_NO_CALL ? NO_CALL : at_most(k.call, NO_CALL - 1)));
     check(INSIDE, all_stay(0));
-    check(SOUND, k.call < TUBE_CALLS && (k.out_length == 0 || k.call == TUBE_OSWORD));
+    check(SOUND, (is_code(code) ? k.call < TUBE_CALLS : k.call == TUBE_NO_CALL) && (k.out_length == 0 || k.call == TUBE_OSWORD));
+}
+
+/* The body of a finished request with any numbers, as a writer puts it on the parallel side: its length, and its code. */
+static size_t finished(uint8_t *code, uint8_t *body, size_t room) {
+    static const size_t blocks[TUBE_CALLS] = {0, 0, 0, 0, 0, 5, 4, 0, 0, 0, 0, 16, 13};
+    uint8_t call = (uint8_t)below(TUBE_CALLS), a = edge(), block[256], text[255], out[1 + TUBE_BODY];
+    if (call == TUBE_OSBYTE_LOW || call == TUBE_OSBYTE_HIGH)
+        a = (uint8_t)(call == TUBE_OSBYTE_LOW ? a & 0x7F : a | 0x80);
+    if (a == 0 && (call == TUBE_OSWORD || call == TUBE_OSFIND_OPEN))
+        a = 1;
+    size_t block_length = call == TUBE_OSWORD ? below(256) : blocks[call];
+    size_t text_length = call == TUBE_OSCLI || call == TUBE_OSFIND_OPEN || call == TUBE_OSFILE ? below(256) : 0;
+    for (size_t i = 0; i < block_length; i++)
+        block[i] = edge();
+    for (size_t i = 0; i < text_length; i++) {
+        text[i] = edge();
+        text[i] = text[i] == 0x0D ? 0x9B : text[i];
+    }
+    TubeWritten w = tube_write_request(TUBE_PARALLEL, 0, call, edge(), edge(), a, edge(), block, block_length, text, text_length, out, sizeof out);
+    check(SOUND, w.answer == TUBE_DONE && w.length > 0 && w.length <= room + 1);
+    *code = out[0];
+    memcpy(body, out + 1, at_most(w.length - 1, room));
+    return w.length - 1;
+}
+
+/* Of a finished request the fields, written again, are its bytes. */
+static void try_read_request(void) {
+    uint8_t code = any_code(), whole[TUBE_BODY], again[1 + TUBE_BODY];
+    int is_finished = below(2) == 0;
+    size_t length = is_finished ? finished(&code, whole, sizeof whole) : length_of();
+    uint8_t *body = lend(0, length);
+    if (is_finished)
+        memcpy(body, whole, length);
+    filled(0);
+    TubeAsked f = tube_read_request(code, body, length);
+    came(16 + (f.call == TUBE_NO_CALL ? NO_CALL : at_most(f.call, NO_CALL - 1)));
+    check(INSIDE, all_stay(0));
+    int inside = f.block_start <= length && f.block_length <= length - f.block_start && f.text_start <= length && f.text_length <= length - f.text_start;
+    TubeKind k = tube_kind_of(code, body, length);
+    check(SOUND, inside && (is_code(code) ? f.call < TUBE_CALLS : f.call == TUBE_NO_CALL) && f.call == k.call && f.out_length == k.out_length
+                     && (is_code(code) || (f.x | f.y | f.a) + f.block_start + f.block_length + f.text_start + f.text_length == 0));
+    if (is_finished && inside) {
+        TubeWritten w = tube_write_request(TUBE_PARALLEL, 0, f.call, f.x, f.y, f.a, f.out_length, body + f.block_start, f.block_length, body + f.text_start, f.text_length,
+                                           again, sizeof again);
+        check(SOUND, w.answer == TUBE_DONE && w.length == 1 + length && again[0] == code && memcmp(again + 1, body, length) == 0);
+    }
 }
 
 static void try_file_name(void) {
@@ -459,12 +552,19 @@ static void try_link(void) {
 }
 
 static void try_begin(void) {
+    static uint8_t reply[TUBE_REPLY_LENGTH], own[TUBE_OWN_LENGTH];
     TubeLink given = any_link();
-    TubeBegun b = tube_begin(given, below(6) ? tag(TUBE_CALLS) : TUBE_OSWORD, below(3) ? byte() : 0);
+    if (below(2) && given.wait > 0)
+        given.wait = 0, given.got = 0;
+    uint8_t call = below(6) ? tag(TUBE_CALLS) : TUBE_OSWORD, out_length = below(3) ? byte() : 0;
+    TubeTold next_byte = tube_link_step(given, 'x', reply, own);
+    TubeBegun b = tube_begin(given, call, out_length);
     came_kind(b.kind, b.kind, b.answer);
-    check(SOUND, b.kind == TUBE_BEGUN ? b.answer == 0 && b.link.wait > 0
-                 : same_link(b.link, given)
-                       && (b.kind == TUBE_COMPLETE ? b.answer == 0 : b.kind == TUBE_DENIED && (b.answer == TUBE_STOPPED || b.answer == TUBE_CALL_WAITS)));
+    /* 7 before 12 before 4; a link that is stopped refuses a byte with 7 too. */
+    int stopped = next_byte.kind == TUBE_TOLD_REFUSED && next_byte.first == TUBE_STOPPED;
+    uint8_t answer = stopped ? TUBE_STOPPED : given.wait > 0 ? TUBE_CALL_WAITS : call >= TUBE_CALLS ? TUBE_UNKNOWN_CODE : TUBE_DONE;
+    uint8_t kind = answer != TUBE_DONE ? TUBE_DENIED : call == TUBE_OSWORD && out_length == 0 ? TUBE_COMPLETE : TUBE_BEGUN;
+    check(SOUND, b.kind == kind && b.answer == answer && (kind == TUBE_BEGUN ? b.link.wait == 1 + call : same_link(b.link, given)));
 }
 
 static void try_link_step(void) {
@@ -519,11 +619,26 @@ static void try_run(void) {
 
 /* ---- Replies ---- */
 
+/* Whether a reply written is read again as one, at its last byte. */
+static int reply_reads(uint8_t carrier, uint8_t call, uint8_t out_length, const uint8_t *bytes, size_t length) {
+    static uint8_t reply[TUBE_REPLY_LENGTH], own[TUBE_OWN_LENGTH], room[2 * TUBE_REPLY_LENGTH * TUBE_NOTE];
+    if (call == TUBE_OSWORD && out_length == 0)
+        return length == 0;
+    if (carrier == TUBE_SERIAL) {
+        TubeRan r = tube_run(tube_begin(tube_link(), call, out_length).link, bytes, length, reply, own, room, sizeof room);
+        return r.told.kind == TUBE_TOLD_REPLY && r.used == length && r.noted == 0;
+    }
+    TubeTaken b = {0, TUBE_TAKEN_MORE, 0};
+    for (size_t i = 0; i < length && b.kind == TUBE_TAKEN_MORE; i++)
+        b = tube_reply_step(call, out_length, b.count, bytes[i], reply);
+    return b.kind == TUBE_TAKEN_LAST && b.count == length && memcmp(reply, bytes, length) == 0;
+}
+
 static void try_write_reply(void) {
     static uint8_t large[2 * TUBE_REPLY_LENGTH];
     static const uint8_t forms[TUBE_CALLS] = {0, 1, 2, 3, 4, 6, 7, 0, 8, 8, 2, 7, 9};
     static const size_t blocks[TUBE_CALLS] = {0, 0, 0, 0, 0, 0, 4, 0, 0, 0, 0, 16, 13};
-    uint8_t call = tag(TUBE_CALLS), out_length = byte(), carry = byte(), x = edge(), y = edge(), a = edge();
+    uint8_t carrier = tag(2), call = tag(TUBE_CALLS), out_length = byte(), carry = byte(), x = edge(), y = edge(), a = edge();
     uint8_t reply = call >= TUBE_CALLS || below(6) == 0 ? tag(11) : forms[call];
     size_t block_length = call >= TUBE_CALLS || below(6) == 0 ? length_of() : call == TUBE_OSWORD ? out_length : blocks[call];
     size_t text_length = reply == TUBE_REPLY_READ_LINE || below(6) == 0 ? length_of() : 0;
@@ -534,24 +649,47 @@ static void try_write_reply(void) {
         for (size_t i = 0; i < text_length; i++)
             text[i] = text[i] == 0x0D ? 0x9B : text[i];
     filled(1);
-    TubeWritten whole = tube_write_reply(call, out_length, reply, carry, x, y, a, block, block_length, text, text_length, large, sizeof large);
+    TubeWritten whole = tube_write_reply(carrier, call, out_length, reply, carry, x, y, a, block, block_length, text, text_length, large, sizeof large);
     size_t room = room_for(whole.length);
     uint8_t *out = lend(2, room);
     filled(2);
-    TubeWritten w = tube_write_reply(call, out_length, reply, carry, x, y, a, block, block_length, text, text_length, out, room);
+    TubeWritten w = tube_write_reply(carrier, call, out_length, reply, carry, x, y, a, block, block_length, text, text_length, out, room);
     came(w.answer);
     check(INSIDE, stays(2, 0, room));
     check(STAYS, all_stay(0) && all_stay(1) && stays(2, 0, at_most(w.length, room)));
-    check(SOUND, sound_written(w, whole, room) && memcmp(out, large, at_most(w.length, room)) == 0);
+    check(SOUND, sound_written(w, whole, room, call, text_length) && memcmp(out, large, at_most(w.length, room)) == 0
+                     && (whole.answer != TUBE_DONE || reply_reads(carrier, call, out_length, large, whole.length)));
+}
+
+static void try_reply_step(void) {
+    static const uint16_t most[TUBE_CALLS] = {2, 1, 1, 3, 0, TUBE_REPLY_LENGTH, 5, 2, 1, 1, 1, 17, 15};
+    uint8_t call = below(4) ? tag(TUBE_CALLS) : TUBE_OSWORD0, out_length = below(3) ? byte() : 0, given = below(4) ? edge() : 0x0D;
+    size_t longest = call >= TUBE_CALLS ? TUBE_REPLY_LENGTH : call == TUBE_OSWORD ? out_length : most[call];
+    uint16_t so_far = longest > 0 ? (uint16_t)count(longest) : (uint16_t)below(3);
+    uint8_t *reply = lend(0, TUBE_REPLY_LENGTH);
+    filled(0);
+    TubeTaken b = tube_reply_step(call, out_length, so_far, given, reply);
+    came_kind(b.kind, TUBE_TAKEN_REFUSED, b.answer);
+    size_t place = at_most(so_far, TUBE_REPLY_LENGTH);
+    check(INSIDE, stays(0, 0, TUBE_REPLY_LENGTH));
+    check(STAYS, b.kind == TUBE_TAKEN_REFUSED ? all_stay(0) : stays(0, place, at_most(place + 1, TUBE_REPLY_LENGTH)));
+    /* 4 before 7 before 6. */
+    int over = call == TUBE_OSWORD0 && so_far == TUBE_REPLY_LENGTH - 1 && given != 0x0D;
+    uint8_t answer = call >= TUBE_CALLS ? TUBE_UNKNOWN_CODE : so_far >= longest ? TUBE_STOPPED : over ? TUBE_STRING_LONG : TUBE_DONE;
+    int last = call == TUBE_OSWORD0 ? (so_far == 0 ? given >= 0x80 : given == 0x0D) : so_far + 1u == longest;
+    check(SOUND, b.answer == answer && (answer != TUBE_DONE ? b.kind == TUBE_TAKEN_REFUSED && b.count == so_far
+                                                            : b.kind == (last ? TUBE_TAKEN_LAST : TUBE_TAKEN_MORE) && b.count == so_far + 1u && reply[place] == given));
 }
 
 static void try_read_reply(void) {
     size_t length = length_of();
     const uint8_t *bytes = lend(0, length);
     filled(0);
-    TubeGiven g = tube_read_reply(tag(TUBE_CALLS), byte(), bytes, length);
+    uint8_t call = tag(TUBE_CALLS);
+    TubeGiven g = tube_read_reply(call, byte(), bytes, length);
+    came(16 + (unsigned)at_most(g.reply, TUBE_REPLY_NONE + 1));
     check(INSIDE, all_stay(0));
-    check(SOUND, g.reply <= TUBE_REPLY_NONE && g.carry <= 1 && g.block_start <= length && g.block_length <= length - g.block_start
+    check(SOUND, (call < TUBE_CALLS ? g.reply < TUBE_REPLY_NONE : g.reply == TUBE_REPLY_NONE) && g.carry <= 1 && g.block_start <= length && g.block_length <= length - g.block_start
                      && g.text_start <= length && g.text_length <= length - g.text_start);
 }
 
@@ -559,7 +697,7 @@ static void try_read_reply(void) {
 
 static void (*const trials[EXPORTS])(void) = {
     try_access, try_new, try_reset, try_lines, try_play, try_text, try_reader, try_read, try_feed, try_write_request,
-    try_kind_of, try_file_name, try_link, try_begin, try_link_step, try_run, try_write_reply, try_read_reply};
+    try_kind_of, try_read_request, try_file_name, try_link, try_begin, try_link_step, try_run, try_write_reply, try_reply_step, try_read_reply};
 
 static sigjmp_buf out_of_call;
 

@@ -52,6 +52,9 @@ static void layout(void) {
     expect("layout of the writers, kinds and names", sizeof(TubeWritten) == 16 && AT(TubeWritten, length, 0) && AT(TubeWritten, answer, 8)
                                                   && sizeof(TubeKind) == 2 && AT(TubeKind, call, 0) && AT(TubeKind, out_length, 1)
                                                   && sizeof(TubeName) == 16 && AT(TubeName, length, 0) && AT(TubeName, answer, 8));
+    expect("layout of a request read", sizeof(TubeAsked) == 40 && AT(TubeAsked, block_start, 0) && AT(TubeAsked, block_length, 8)
+                                           && AT(TubeAsked, text_start, 16) && AT(TubeAsked, text_length, 24) && AT(TubeAsked, call, 32)
+                                           && AT(TubeAsked, x, 33) && AT(TubeAsked, y, 34) && AT(TubeAsked, a, 35) && AT(TubeAsked, out_length, 36));
     expect("layout of the link", sizeof(TubeLink) == 8 && AT(TubeLink, got, 0) && AT(TubeLink, held, 2) && AT(TubeLink, wait, 4)
                                      && AT(TubeLink, out_length, 5) && AT(TubeLink, action, 6) && AT(TubeLink, flags, 7)
                                      && sizeof(TubeTold) == 24 && AT(TubeTold, link, 0) && AT(TubeTold, length, 8) && AT(TubeTold, kind, 16)
@@ -61,6 +64,7 @@ static void layout(void) {
     expect("layout of a reply read", sizeof(TubeGiven) == 40 && AT(TubeGiven, block_start, 0) && AT(TubeGiven, block_length, 8)
                                          && AT(TubeGiven, text_start, 16) && AT(TubeGiven, text_length, 24) && AT(TubeGiven, reply, 32)
                                          && AT(TubeGiven, carry, 33) && AT(TubeGiven, x, 34) && AT(TubeGiven, y, 35) && AT(TubeGiven, a, 36));
+    expect("layout of a reply's byte", sizeof(TubeTaken) == 4 && AT(TubeTaken, count, 0) && AT(TubeTaken, kind, 2) && AT(TubeTaken, answer, 3));
 }
 
 /* ---- The chip ---- */
@@ -216,35 +220,51 @@ static TubeRead each(TubeReader reader, const uint8_t *raw, size_t length, uint8
 
 static uint8_t letters[300], escapes[300];
 
+/* A request in style 3 on the serial lead and in style 0 on the parallel side; its block is all escapes. */
+static TubeWritten request_on(uint8_t carrier, TubeCall call, uint8_t a, size_t block, size_t text, uint8_t *out, size_t room) {
+    return tube_write_request(carrier, carrier == TUBE_SERIAL ? 3 : 0, (uint8_t)call, 1, 2, a, 9, escapes, block, letters, text, out, room);
+}
+
 static TubeWritten request(TubeCall call, uint8_t a, size_t block, size_t text, uint8_t *out, size_t room) {
-    return tube_write_request(TUBE_SERIAL, 3, (uint8_t)call, 1, 2, a, 9, escapes, block, letters, text, out, room);
+    return request_on(TUBE_SERIAL, call, a, block, text, out, room);
 }
 
 static int refuses(TubeWritten w, uint8_t answer) {
     return w.answer == answer && w.length == 0;
 }
 
+static int asks(TubeAsked f, uint8_t call, uint8_t x, uint8_t y, uint8_t a, uint8_t out_length) {
+    return f.call == call && f.x == x && f.y == y && f.a == a && f.out_length == out_length;
+}
+
+static int parts(TubeAsked f, size_t block_start, size_t block_length, size_t text_start, size_t text_length) {
+    return f.block_start == block_start && f.block_length == block_length && f.text_start == text_start && f.text_length == text_length;
+}
+
 static void requests_written(void) {
+    /* Written with X 1, Y 2, out length 9 and this A; those that the call has come back. */
     static const struct {
         TubeCall call;
         uint8_t a, code;
         size_t block, text, length; /* of the whole encoding: every block byte is doubled */
+        uint8_t x, y, out_length;
+        size_t block_start, text_start;
     } calls[TUBE_CALLS] = {
-        {TUBE_OSRDCH, 0, TUBE_CODE_OSRDCH, 0, 0, 2},
-        {TUBE_OSCLI, 0, TUBE_CODE_OSCLI, 0, 255, 2 + 256},
-        {TUBE_OSBYTE_LOW, 0x7F, TUBE_CODE_OSBYTE_LOW, 0, 0, 2 + 2},
-        {TUBE_OSBYTE_HIGH, 0x80, TUBE_CODE_OSBYTE_HIGH, 0, 0, 2 + 3},
-        {TUBE_OSWORD, 1, TUBE_CODE_OSWORD, 255, 0, 2 + 3 + 2 * 255},
-        {TUBE_OSWORD0, 0, TUBE_CODE_OSWORD0, 5, 0, 2 + 10},
-        {TUBE_OSARGS, 0, TUBE_CODE_OSARGS, 4, 0, 2 + 2 + 8},
-        {TUBE_OSBGET, 0, TUBE_CODE_OSBGET, 0, 0, 2 + 1},
-        {TUBE_OSBPUT, 0, TUBE_CODE_OSBPUT, 0, 0, 2 + 2},
-        {TUBE_OSFIND_CLOSE, 0, TUBE_CODE_OSFIND, 0, 0, 2 + 2},
-        {TUBE_OSFIND_OPEN, 0xC0, TUBE_CODE_OSFIND, 0, 255, 2 + 1 + 256},
-        {TUBE_OSFILE, 0xFF, TUBE_CODE_OSFILE, 16, 255, 2 + 32 + 256 + 1},
-        {TUBE_OSGBPB, 4, TUBE_CODE_OSGBPB, 13, 0, 2 + 26 + 1},
+        {TUBE_OSRDCH, 0, TUBE_CODE_OSRDCH, 0, 0, 2, 0, 0, 0, 0, 0},
+        {TUBE_OSCLI, 0, TUBE_CODE_OSCLI, 0, 255, 2 + 256, 0, 0, 0, 0, 0},
+        {TUBE_OSBYTE_LOW, 0x7F, TUBE_CODE_OSBYTE_LOW, 0, 0, 2 + 2, 1, 0, 0, 0, 0},
+        {TUBE_OSBYTE_HIGH, 0x80, TUBE_CODE_OSBYTE_HIGH, 0, 0, 2 + 3, 1, 2, 0, 0, 0},
+        {TUBE_OSWORD, 1, TUBE_CODE_OSWORD, 255, 0, 2 + 3 + 2 * 255, 0, 0, 9, 2, 0},
+        {TUBE_OSWORD0, 0, TUBE_CODE_OSWORD0, 5, 0, 2 + 10, 0, 0, 0, 0, 0},
+        {TUBE_OSARGS, 5, TUBE_CODE_OSARGS, 4, 0, 2 + 2 + 8, 0, 2, 0, 1, 0},
+        {TUBE_OSBGET, 0, TUBE_CODE_OSBGET, 0, 0, 2 + 1, 0, 2, 0, 0, 0},
+        {TUBE_OSBPUT, 6, TUBE_CODE_OSBPUT, 0, 0, 2 + 2, 0, 2, 0, 0, 0},
+        {TUBE_OSFIND_CLOSE, 0, TUBE_CODE_OSFIND, 0, 0, 2 + 2, 0, 2, 0, 0, 0},
+        {TUBE_OSFIND_OPEN, 0xC0, TUBE_CODE_OSFIND, 0, 255, 2 + 1 + 256, 0, 0, 0, 0, 1},
+        {TUBE_OSFILE, 0xFF, TUBE_CODE_OSFILE, 16, 255, 2 + 32 + 256 + 1, 0, 0, 0, 0, TUBE_FILE_BLOCK},
+        {TUBE_OSGBPB, 4, TUBE_CODE_OSGBPB, 13, 0, 2 + 26 + 1, 0, 0, 0, 0, 0},
     };
-    int exact = 1, tight = 1, again = 1, kinds = 1;
+    int exact = 1, tight = 1, again = 1, kinds = 1, fields = 1, plain = 1;
     for (int i = 0; i < TUBE_CALLS; i++) {
         uint8_t *out = lend(&one), *body = lend(&two);
         const size_t length = calls[i].length;
@@ -257,18 +277,32 @@ static void requests_written(void) {
         again = again && reads(r, TUBE_REQUEST, 0, 3, calls[i].code, r.length) && kept(&two, 0, r.length) && same_reader(r.reader, tube_reader(TUBE_SERIAL))
                 && reads(fed.read, TUBE_REQUEST, 0, 3, calls[i].code, r.length) && fed.used == length;
         TubeKind kind = tube_kind_of(r.code, body, r.length);
-        kinds = kinds && kind.call == calls[i].call && kind.out_length == (calls[i].call == TUBE_OSWORD ? 9 : 0);
+        kinds = kinds && kind.call == calls[i].call && kind.out_length == calls[i].out_length;
+        TubeAsked f = tube_read_request(r.code, body, r.length);
+        fields = fields && asks(f, (uint8_t)calls[i].call, calls[i].x, calls[i].y, calls[i].a, calls[i].out_length)
+                 && parts(f, calls[i].block_start, calls[i].block, calls[i].text_start, calls[i].text)
+                 && memcmp(body + f.block_start, escapes, f.block_length) == 0 && memcmp(body + f.text_start, letters, f.text_length) == 0;
+
+        /* The parallel side: the plain code, then the same body as it is. */
+        const size_t shorter = 1 + r.length;
+        out = lend(&one);
+        plain = plain && refuses(request_on(TUBE_PARALLEL, calls[i].call, calls[i].a, calls[i].block, calls[i].text, out, shorter - 1), TUBE_BUFFER_SHORT) && kept(&one, 0, 0);
+        w = request_on(TUBE_PARALLEL, calls[i].call, calls[i].a, calls[i].block, calls[i].text, out, shorter);
+        plain = plain && w.answer == TUBE_DONE && w.length == shorter && out[0] == calls[i].code && memcmp(out + 1, body, r.length) == 0 && kept(&one, 0, shorter);
+        body = lend(&two);
+        TubeRead p = each(tube_reader(TUBE_PARALLEL), out, shorter, body);
+        TubeFed slice = tube_feed(tube_reader(TUBE_PARALLEL), out, shorter, body);
+        plain = plain && reads(p, TUBE_REQUEST, 0, 0, calls[i].code, r.length) && same_reader(p.reader, tube_reader(TUBE_PARALLEL)) && memcmp(body, out + 1, r.length) == 0
+                && kept(&two, 0, r.length) && reads(slice.read, TUBE_REQUEST, 0, 0, calls[i].code, r.length) && slice.used == shorter;
     }
     expect("tube_write_request: each call at its longest, just long enough", exact);
     expect("tube_write_request: each call one byte short", tight);
     expect("tube_read, tube_feed: each call at its longest", again);
     expect("tube_kind_of: each call", kinds);
+    expect("tube_read_request: each call", fields);
+    expect("tube_write_request, tube_read, tube_feed: the parallel side has no escapes", plain);
 
     uint8_t *out = lend(&one);
-    TubeWritten w = tube_write_request(TUBE_PARALLEL, 0, TUBE_OSWORD0, 0, 0, 0, 0, escapes, 5, letters, 0, out, 6);
-    expect("tube_write_request: the parallel side has no escapes", w.answer == TUBE_DONE && w.length == 6 && out[0] == TUBE_CODE_OSWORD0 && memcmp(out + 1, escapes, 5) == 0 && kept(&one, 0, 6));
-
-    out = lend(&one);
     uint8_t ended_text[2] = {'A', 0x0D};
     int refused = refuses(request(TUBE_OSCLI, 0, 0, 256, out, AREA), TUBE_STRING_LONG) && refuses(request(TUBE_OSRDCH, 0, 0, 256, out, 0), TUBE_STRING_LONG)
                   && refuses(request(TUBE_OSBYTE_LOW, 0x80, 0, 0, out, AREA), TUBE_BAD_FIELD) && refuses(request(TUBE_OSBYTE_HIGH, 0x7F, 0, 0, out, AREA), TUBE_BAD_FIELD)
@@ -279,7 +313,8 @@ static void requests_written(void) {
                   && refuses(tube_write_request(TUBE_SERIAL, 0, TUBE_OSCLI, 0, 0, 0, 0, letters, 0, ended_text, 2, out, AREA), TUBE_BAD_FIELD);
     for (int i = 0; i < 256; i++) {
         if (i >= TUBE_CALLS)
-            refused = refused && refuses(tube_write_request(TUBE_SERIAL, 0, (uint8_t)i, 0, 0, 0, 0, letters, 0, letters, 0, out, AREA), TUBE_BAD_FIELD);
+            refused = refused && refuses(tube_write_request(TUBE_SERIAL, 0, (uint8_t)i, 0, 0, 0, 0, letters, 0, letters, 0, out, AREA), TUBE_UNKNOWN_CODE)
+                      && refuses(tube_write_request(TUBE_PARALLEL, 0, (uint8_t)i, 0, 0, 0, 0, letters, 0, letters, 0, out, AREA), TUBE_UNKNOWN_CODE);
         if (i > TUBE_PARALLEL)
             refused = refused && refuses(tube_write_request((uint8_t)i, 0, TUBE_OSRDCH, 0, 0, 0, 0, letters, 0, letters, 0, out, AREA), TUBE_BAD_FIELD);
         if (i > 3)
@@ -289,10 +324,65 @@ static void requests_written(void) {
     }
     expect("tube_write_request: each refusal touches no byte", refused && kept(&one, 0, 0));
 
-    out = lend(&one);
-    memset(out, 0x9B, 1);
-    TubeKind empty = tube_kind_of(TUBE_CODE_OSWORD, out, 0), shut = tube_kind_of(TUBE_CODE_OSFIND, out, 0), other = tube_kind_of(0xFF, out, 1);
-    expect("tube_kind_of: no body, no such code", empty.call == TUBE_OSWORD && empty.out_length == 0 && shut.out_length == 0 && other.call == TUBE_OSRDCH && other.out_length == 0);
+    /* Everything wrong at once, then each first answer mended: no such call, a long string, a field (the carrier, the style, A, the block), no room. */
+    int order = refuses(tube_write_request(9, 9, TUBE_CALLS, 0, 0, 0, 0, escapes, 3, letters, 256, out, 0), TUBE_UNKNOWN_CODE)
+                && refuses(tube_write_request(9, 9, TUBE_NO_CALL, 0, 0, 0, 0, escapes, 3, letters, 256, out, 0), TUBE_UNKNOWN_CODE)
+                && refuses(tube_write_request(9, 9, TUBE_OSFILE, 0, 0, 0, 0, escapes, 3, letters, 256, out, 0), TUBE_STRING_LONG)
+                && refuses(tube_write_request(9, 9, TUBE_OSFILE, 0, 0, 0, 0, escapes, 3, letters, 255, out, 0), TUBE_BAD_FIELD)
+                && refuses(tube_write_request(TUBE_SERIAL, 9, TUBE_OSFILE, 0, 0, 0, 0, escapes, 3, letters, 255, out, 0), TUBE_BAD_FIELD)
+                && refuses(tube_write_request(TUBE_SERIAL, 0, TUBE_OSFILE, 0, 0, 0, 0, escapes, 3, letters, 255, out, 0), TUBE_BAD_FIELD)
+                && refuses(tube_write_request(TUBE_SERIAL, 0, TUBE_OSFILE, 0, 0, 0, 0, escapes, 16, letters, 255, out, 0), TUBE_BUFFER_SHORT)
+                && refuses(tube_write_request(TUBE_SERIAL, 0, TUBE_OSFIND_OPEN, 0, 0, 0, 0, letters, 0, letters, 256, out, 0), TUBE_STRING_LONG)
+                && refuses(tube_write_request(TUBE_SERIAL, 0, TUBE_OSFIND_OPEN, 0, 0, 0, 0, letters, 0, letters, 1, out, 0), TUBE_BAD_FIELD)
+                && refuses(tube_write_request(TUBE_SERIAL, 0, TUBE_OSFIND_OPEN, 0, 0, 1, 0, letters, 0, letters, 1, out, 0), TUBE_BUFFER_SHORT);
+    expect("tube_write_request: 4 before 6 before 9 before 8", order && kept(&one, 0, 0));
+}
+
+static void requests_taken_apart(void) {
+    uint8_t *body = lend(&one);
+    memset(body, 0x9B, 300);
+    TubeKind empty = tube_kind_of(TUBE_CODE_OSWORD, body, 0), shut = tube_kind_of(TUBE_CODE_OSFIND, body, 0), open = tube_kind_of(TUBE_CODE_OSFIND, body, 1);
+    int known = empty.call == TUBE_OSWORD && empty.out_length == 0 && shut.call == TUBE_OSFIND_CLOSE && shut.out_length == 0 && open.call == TUBE_OSFIND_OPEN && open.out_length == 0;
+    int none = 1, inside = 1, same = 1;
+    for (int code = 0; code < 256; code++) {
+        int call = code <= TUBE_CODE_OSGBPB && code % 2 == 0;
+        for (size_t length = 0; length <= 300; length++) {
+            TubeKind kind = tube_kind_of((uint8_t)code, body, length);
+            TubeAsked f = tube_read_request((uint8_t)code, body, length);
+            if (!call) {
+                none = none && kind.call == TUBE_NO_CALL && kind.out_length == 0;
+                same = same && asks(f, TUBE_NO_CALL, 0, 0, 0, 0) && parts(f, 0, 0, 0, 0);
+            }
+            same = same && f.call == kind.call && f.out_length == kind.out_length;
+            inside = inside && f.block_start <= length && f.block_length <= length - f.block_start && f.text_start <= length && f.text_length <= length - f.text_start;
+        }
+    }
+    expect("tube_kind_of: no body, no such code", known && none);
+    expect("tube_read_request: no such code, the same call as tube_kind_of", same);
+    expect("tube_read_request: the parts lie inside a body of any length", inside);
+
+    /* A byte that is not there counts as 0, and a part starts where the body ends at the latest; OSWORD's out length and OSFILE's A are the last byte there is. */
+    TubeAsked args = tube_read_request(TUBE_CODE_OSARGS, body, 0), cut = tube_read_request(TUBE_CODE_OSARGS, body, 3), byte = tube_read_request(TUBE_CODE_OSBYTE_HIGH, body, 2);
+    TubeAsked word = tube_read_request(TUBE_CODE_OSWORD, body, 1), file = tube_read_request(TUBE_CODE_OSFILE, body, 10), name = tube_read_request(TUBE_CODE_OSFILE, body, 17);
+    TubeAsked find = tube_read_request(TUBE_CODE_OSFIND, body, 0), cli = tube_read_request(TUBE_CODE_OSCLI, body, 0), gbpb = tube_read_request(TUBE_CODE_OSGBPB, body, 13);
+    int numbers = asks(args, TUBE_OSARGS, 0, 0, 0, 0) && asks(cut, TUBE_OSARGS, 0, 0x9B, 0, 0) && asks(byte, TUBE_OSBYTE_HIGH, 0x9B, 0x9B, 0, 0)
+                  && asks(word, TUBE_OSWORD, 0, 0, 0x9B, 0x9B) && asks(file, TUBE_OSFILE, 0, 0, 0x9B, 0) && asks(find, TUBE_OSFIND_CLOSE, 0, 0, 0, 0)
+                  && asks(gbpb, TUBE_OSGBPB, 0, 0, 0, 0);
+    int places = parts(args, 0, 0, 0, 0) && parts(cut, 1, 2, 0, 0) && parts(word, 1, 0, 0, 0) && parts(file, 0, 10, 10, 0) && parts(name, 0, 16, 16, 0)
+                 && parts(find, 0, 0, 0, 0) && parts(cli, 0, 0, 0, 0) && parts(gbpb, 0, 13, 0, 0);
+    expect("tube_read_request: a body that is not finished", numbers && places);
+
+    /* The shortest of the calls whose length varies. */
+    const uint8_t no_block[3] = {7, 0, 5}, no_string[1] = {0x0D}, no_name[2] = {0x80, 0x0D};
+    uint8_t nameless[18] = {0};
+    nameless[16] = 0x0D;
+    nameless[17] = 0xFF;
+    word = tube_read_request(TUBE_CODE_OSWORD, no_block, 3), cli = tube_read_request(TUBE_CODE_OSCLI, no_string, 1);
+    find = tube_read_request(TUBE_CODE_OSFIND, no_name, 2), file = tube_read_request(TUBE_CODE_OSFILE, nameless, 18);
+    expect("tube_read_request: an empty block, string and name", asks(word, TUBE_OSWORD, 0, 0, 7, 5) && parts(word, 2, 0, 0, 0)
+                                                                     && asks(cli, TUBE_OSCLI, 0, 0, 0, 0) && parts(cli, 0, 0, 0, 0)
+                                                                     && asks(find, TUBE_OSFIND_OPEN, 0, 0, 0x80, 0) && parts(find, 0, 0, 1, 0)
+                                                                     && asks(file, TUBE_OSFILE, 0, 0, 0xFF, 0) && parts(file, 0, 16, 16, 0));
 }
 
 static void names_found(void) {
@@ -347,22 +437,40 @@ static void requests_read(void) {
     expect("tube_read: a first byte of the parallel side", reads(unlisted, TUBE_REFUSED, TUBE_UNKNOWN_CODE, 0, 0, 0)
                                                                && reads(tube_read(tube_reader(TUBE_PARALLEL), 0, body), TUBE_REQUEST, 0, 0, 0, 0));
 
-    TubeReader odd[7] = {fresh, fresh, fresh, taken.reader, taken.reader, taken.reader, six.reader};
+    const TubeReader parallel = tube_reader(TUBE_PARALLEL), going = tube_read(parallel, TUBE_CODE_OSCLI, body).reader;
+    enum { ODD = 16 };
+    TubeReader odd[ODD] = {fresh,    fresh,        fresh,        fresh,        fresh,        fresh,        parallel, parallel,
+                           parallel, taken.reader, taken.reader, taken.reader, taken.reader, taken.reader, going,    six.reader};
     odd[0].phase = 3;
     odd[1].carrier = 2;
     odd[2].phase = 0xFF;
-    odd[3].style = 4;
-    odd[4].code = 0x18;
-    odd[5].count = UINT16_MAX;
+    odd[3].style = 1; /* outside a request these are 0 */
+    odd[4].code = TUBE_CODE_OSCLI;
+    odd[5].count = 1;
+    odd[6].style = 1;
+    odd[7].code = TUBE_CODE_OSCLI;
+    odd[8].count = UINT16_MAX;
+    odd[9].style = 4;
+    odd[10].code = 0x18;
+    odd[11].code = TUBE_CODE_OSRDCH;
+    odd[12].count = 256; /* as many as the longest body */
+    odd[13].count = UINT16_MAX;
+    odd[14].style = 1;
     body = lend(&one);
     int stopped = 1;
-    for (int i = 0; i < 7; i++) {
+    for (int i = 0; i < ODD; i++) {
         TubeRead r = tube_read(odd[i], 'A', body);
         TubeFed fed = tube_feed(odd[i], wire, 7, body), none = tube_feed(odd[i], wire, 0, body);
         stopped = stopped && reads(r, TUBE_REFUSED, TUBE_STOPPED, 0, 0, 0) && same_reader(r.reader, odd[i]) && reads(fed.read, TUBE_REFUSED, TUBE_STOPPED, 0, 0, 0) && fed.used == 1
                   && same_reader(fed.read.reader, odd[i]) && reads(none.read, TUBE_NEED_MORE, 0, 0, 0, 0) && none.used == 0 && same_reader(none.read.reader, odd[i]);
     }
     expect("tube_read, tube_feed: a stopped reader and one beyond its limits", stopped && kept(&one, 0, 0));
+    TubeReader last = taken.reader;
+    last.count = 255;
+    TubeRead ends = tube_read(last, 0x0D, body);
+    expect("tube_read: a reader just inside its limits", reads(ends, TUBE_REQUEST, 0, 3, TUBE_CODE_OSCLI, 256) && same_reader(ends.reader, fresh) && body[255] == 0x0D
+                                                             && kept(&one, 255, 1));
+    body = lend(&one);
 
     /* The request in two slices, cut inside an escape pair; behind it a character, then a mark inside a request. */
     TubeFed none = tube_feed(fresh, wire, 0, body), first = tube_feed(fresh, wire, 4, body);
@@ -429,7 +537,7 @@ static void calls_begun(void) {
             waiting.out_length = i == TUBE_OSWORD ? 255 : 0;
             begun = begun && b.kind == TUBE_BEGUN && b.answer == 0 && same_link(b.link, waiting);
         } else
-            denied = denied && b.kind == TUBE_DENIED && b.answer == TUBE_STOPPED && same_link(b.link, fresh);
+            denied = denied && b.kind == TUBE_DENIED && b.answer == TUBE_UNKNOWN_CODE && same_link(b.link, fresh);
     }
     TubeBegun complete = tube_begin(fresh, TUBE_OSWORD, 0);
     expect("tube_begin: each call", begun && complete.kind == TUBE_COMPLETE && complete.answer == 0 && same_link(complete.link, fresh));
@@ -441,6 +549,20 @@ static void calls_begun(void) {
         denied = denied && b.kind == TUBE_DENIED && b.answer == TUBE_STOPPED && same_link(b.link, odd_link(i));
     }
     expect("tube_begin: no such call, another waits, stopped", denied);
+
+    int order = 1;
+    for (int i = 0; i < 256; i++) {
+        TubeLink stopped = waits;
+        stopped.flags = TUBE_LINK_STOPPED;
+        TubeBegun seven = tube_begin(stopped, (uint8_t)i, 0), twelve = tube_begin(waits, (uint8_t)i, 0), odd = tube_begin(odd_link(i % ODD_LINKS), (uint8_t)i, 0);
+        order = order && seven.kind == TUBE_DENIED && seven.answer == TUBE_STOPPED && same_link(seven.link, stopped)
+                && twelve.kind == TUBE_DENIED && twelve.answer == TUBE_CALL_WAITS && same_link(twelve.link, waits)
+                && odd.kind == TUBE_DENIED && odd.answer == TUBE_STOPPED && same_link(odd.link, odd_link(i % ODD_LINKS));
+    }
+    TubeLink open = fresh;
+    open.action = TUBE_IN_EVENT, open.held = 2, open.flags = TUBE_LINK_ESCAPE;
+    TubeBegun four = tube_begin(open, TUBE_NO_CALL, 0);
+    expect("tube_begin: 7 before 12 before 4", order && four.kind == TUBE_DENIED && four.answer == TUBE_UNKNOWN_CODE && same_link(four.link, open));
 }
 
 static void steps(void) {
@@ -541,59 +663,78 @@ static void runs(void) {
 
 /* ---- Replies ---- */
 
-static TubeWritten reply_to(TubeCall call, TubeReplyForm reply, const uint8_t *block, size_t block_length, size_t text_length, uint8_t *out, size_t room) {
-    return tube_write_reply((uint8_t)call, 3, (uint8_t)reply, 2, 0x33, 0x22, 0x41, block, block_length, letters, text_length, out, room);
+static TubeWritten reply_to(uint8_t carrier, TubeCall call, TubeReplyForm reply, const uint8_t *block, size_t block_length, size_t text_length, uint8_t *out, size_t room) {
+    return tube_write_reply(carrier, (uint8_t)call, 3, (uint8_t)reply, 2, 0x33, 0x9B, 0x41, block, block_length, letters, text_length, out, room);
+}
+
+static const uint8_t reply_block[16] = {1, 2, 3, 0x9B, 5, 6, 7, 8, 9, 10, 11, 12, 13, 14, 15, 16};
+
+/* With carry 2, X &33, Y &9B, A &41 and an out length of 3: the bytes on the parallel side, and how many of them are doubled on the serial lead. */
+enum { FORMS = 14 };
+static const struct {
+    TubeCall call;
+    TubeReplyForm reply;
+    size_t block, text, length, doubled;
+    const char *bytes;
+} forms[FORMS] = {
+    {TUBE_OSRDCH, TUBE_REPLY_CARRY_A, 0, 0, 2, 0, "\x80\x41"},
+    {TUBE_OSCLI, TUBE_REPLY_ACK, 0, 0, 1, 0, "\x80"},
+    {TUBE_OSBYTE_LOW, TUBE_REPLY_BYTE, 0, 0, 1, 0, "\x41"},
+    {TUBE_OSBYTE_HIGH, TUBE_REPLY_CARRY_YX, 0, 0, 3, 1, "\x80\x9B\x33"},
+    {TUBE_OSWORD, TUBE_REPLY_BLOCK, 3, 0, 3, 0, "\x01\x02\x03"},
+    {TUBE_OSWORD0, TUBE_REPLY_ESCAPED_LINE, 0, 0, 1, 0, "\xFF"},
+    {TUBE_OSWORD0, TUBE_REPLY_READ_LINE, 0, 2, 4, 0, "\x7F" "AB\x0D"},
+    {TUBE_OSARGS, TUBE_REPLY_A_BLOCK, 4, 0, 5, 1, "\x41\x01\x02\x03\x9B"},
+    {TUBE_OSBGET, TUBE_REPLY_CARRY_A, 0, 0, 2, 0, "\x80\x41"},
+    {TUBE_OSBPUT, TUBE_REPLY_PLAIN, 0, 0, 1, 0, "\x7F"},
+    {TUBE_OSFIND_CLOSE, TUBE_REPLY_PLAIN, 0, 0, 1, 0, "\x7F"},
+    {TUBE_OSFIND_OPEN, TUBE_REPLY_BYTE, 0, 0, 1, 0, "\x41"},
+    {TUBE_OSFILE, TUBE_REPLY_A_BLOCK, 16, 0, 17, 1, "\x41\x01\x02\x03\x9B\x05\x06\x07\x08\x09\x0A\x0B\x0C\x0D\x0E\x0F\x10"},
+    {TUBE_OSGBPB, TUBE_REPLY_BLOCK_CARRY_A, 13, 0, 15, 1, "\x01\x02\x03\x9B\x05\x06\x07\x08\x09\x0A\x0B\x0C\x0D\x80\x41"},
+};
+
+/* Whether these are the bytes on a carrier. */
+static int encodes(uint8_t carrier, const uint8_t *out, const char *bytes, size_t length) {
+    size_t at = 0;
+    for (size_t i = 0; i < length; i++) {
+        if (out[at++] != (uint8_t)bytes[i])
+            return 0;
+        if (carrier == TUBE_SERIAL && (uint8_t)bytes[i] == TUBE_ESCAPE_BYTE && out[at++] != TUBE_ESCAPE_BYTE)
+            return 0;
+    }
+    return 1;
 }
 
 static void replies_written(void) {
-    static const uint8_t block[16] = {1, 2, 3, 0x9B, 5, 6, 7, 8, 9, 10, 11, 12, 13, 14, 15, 16};
-    /* With carry 2, X &33, Y &22, A &41 and an out length of 3. */
-    static const struct {
-        TubeCall call;
-        TubeReplyForm reply;
-        size_t block, text, length;
-        const char *bytes;
-    } forms[14] = {
-        {TUBE_OSRDCH, TUBE_REPLY_CARRY_A, 0, 0, 2, "\x80\x41"},
-        {TUBE_OSCLI, TUBE_REPLY_ACK, 0, 0, 1, "\x80"},
-        {TUBE_OSBYTE_LOW, TUBE_REPLY_BYTE, 0, 0, 1, "\x41"},
-        {TUBE_OSBYTE_HIGH, TUBE_REPLY_CARRY_YX, 0, 0, 3, "\x80\x22\x33"},
-        {TUBE_OSWORD, TUBE_REPLY_BLOCK, 3, 0, 3, "\x01\x02\x03"},
-        {TUBE_OSWORD0, TUBE_REPLY_ESCAPED_LINE, 0, 0, 1, "\xFF"},
-        {TUBE_OSWORD0, TUBE_REPLY_READ_LINE, 0, 2, 4, "\x7F" "AB\x0D"},
-        {TUBE_OSARGS, TUBE_REPLY_A_BLOCK, 4, 0, 6, "\x41\x01\x02\x03\x9B\x9B"},
-        {TUBE_OSBGET, TUBE_REPLY_CARRY_A, 0, 0, 2, "\x80\x41"},
-        {TUBE_OSBPUT, TUBE_REPLY_PLAIN, 0, 0, 1, "\x7F"},
-        {TUBE_OSFIND_CLOSE, TUBE_REPLY_PLAIN, 0, 0, 1, "\x7F"},
-        {TUBE_OSFIND_OPEN, TUBE_REPLY_BYTE, 0, 0, 1, "\x41"},
-        {TUBE_OSFILE, TUBE_REPLY_A_BLOCK, 16, 0, 18, "\x41\x01\x02\x03\x9B\x9B\x05\x06\x07\x08\x09\x0A\x0B\x0C\x0D\x0E\x0F\x10"},
-        {TUBE_OSGBPB, TUBE_REPLY_BLOCK_CARRY_A, 13, 0, 16, "\x01\x02\x03\x9B\x9B\x05\x06\x07\x08\x09\x0A\x0B\x0C\x0D\x80\x41"},
-    };
-    int exact = 1, tight = 1, fitting = 1;
-    for (int i = 0; i < 14; i++) {
-        uint8_t *out = lend(&one);
-        const size_t length = forms[i].length;
-        tight = tight && refuses(reply_to(forms[i].call, forms[i].reply, block, forms[i].block, forms[i].text, out, length - 1), TUBE_BUFFER_SHORT)
-                && refuses(reply_to(forms[i].call, forms[i].reply, block, forms[i].block, forms[i].text, out, 0), TUBE_BUFFER_SHORT) && kept(&one, 0, 0);
-        TubeWritten w = reply_to(forms[i].call, forms[i].reply, block, forms[i].block, forms[i].text, out, length);
-        exact = exact && w.answer == TUBE_DONE && w.length == length && memcmp(out, forms[i].bytes, length) == 0 && kept(&one, 0, length);
-        out = lend(&one);
-        for (unsigned form = 0; form < 256; form++) {
-            int line = forms[i].call == TUBE_OSWORD0 && (form == TUBE_REPLY_ESCAPED_LINE || form == TUBE_REPLY_READ_LINE);
-            if (form != forms[i].reply && !line)
-                fitting = fitting && refuses(reply_to(forms[i].call, (TubeReplyForm)form, block, forms[i].block, forms[i].text, out, AREA), TUBE_BAD_FIELD);
+    for (uint8_t carrier = TUBE_SERIAL; carrier <= TUBE_PARALLEL; carrier++) {
+        int exact = 1, tight = 1, fitting = 1;
+        for (int i = 0; i < FORMS; i++) {
+            uint8_t *out = lend(&one);
+            const size_t block = forms[i].block, text = forms[i].text, length = forms[i].length + (carrier == TUBE_SERIAL ? forms[i].doubled : 0);
+            tight = tight && refuses(reply_to(carrier, forms[i].call, forms[i].reply, reply_block, block, text, out, length - 1), TUBE_BUFFER_SHORT)
+                    && refuses(reply_to(carrier, forms[i].call, forms[i].reply, reply_block, block, text, out, 0), TUBE_BUFFER_SHORT) && kept(&one, 0, 0);
+            TubeWritten w = reply_to(carrier, forms[i].call, forms[i].reply, reply_block, block, text, out, length);
+            exact = exact && w.answer == TUBE_DONE && w.length == length && encodes(carrier, out, forms[i].bytes, forms[i].length) && kept(&one, 0, length);
+            out = lend(&one);
+            for (unsigned form = 0; form < 256; form++) {
+                int line = forms[i].call == TUBE_OSWORD0 && (form == TUBE_REPLY_ESCAPED_LINE || form == TUBE_REPLY_READ_LINE);
+                if (form != forms[i].reply && !line)
+                    fitting = fitting && refuses(reply_to(carrier, forms[i].call, (TubeReplyForm)form, reply_block, block, text, out, AREA), TUBE_BAD_FIELD);
+            }
+            fitting = fitting && refuses(reply_to(carrier, forms[i].call, forms[i].reply, reply_block, block + 1, text, out, AREA), TUBE_BAD_FIELD)
+                      && refuses(reply_to(carrier, forms[i].call, forms[i].reply, reply_block, block, 256, out, 0), TUBE_STRING_LONG) && kept(&one, 0, 0);
         }
-        fitting = fitting && refuses(reply_to(forms[i].call, forms[i].reply, block, forms[i].block + 1, forms[i].text, out, AREA), TUBE_BAD_FIELD)
-                  && refuses(reply_to(forms[i].call, forms[i].reply, block, forms[i].block, 256, out, 0), TUBE_STRING_LONG) && kept(&one, 0, 0);
+        const int serial = carrier == TUBE_SERIAL;
+        expect(serial ? "tube_write_reply: each call and form, just long enough" : "tube_write_reply: each call and form without escapes, just long enough", exact);
+        expect(serial ? "tube_write_reply: each call and form one byte short" : "tube_write_reply: each call and form one byte short, without escapes", tight);
+        expect(serial ? "tube_write_reply: another form, another block, a long line" : "tube_write_reply: another form, another block, a long line on the parallel side", fitting);
     }
-    expect("tube_write_reply: each call and form, just long enough", exact);
-    expect("tube_write_reply: each call and form one byte short", tight);
-    expect("tube_write_reply: another form, another block, a long line", fitting);
 
     uint8_t *out = lend(&one);
-    TubeWritten none = tube_write_reply(TUBE_OSWORD, 0, TUBE_REPLY_BLOCK, 0, 0, 0, 0, block, 0, letters, 0, out, 0);
-    expect("tube_write_reply: no byte into an empty buffer", none.answer == TUBE_DONE && none.length == 0 && kept(&one, 0, 0));
-    TubeWritten most = tube_write_reply(TUBE_OSWORD, 255, TUBE_REPLY_BLOCK, 0, 0, 0, 0, escapes, 255, letters, 0, out, 510);
+    TubeWritten none = tube_write_reply(TUBE_SERIAL, TUBE_OSWORD, 0, TUBE_REPLY_BLOCK, 0, 0, 0, 0, letters, 0, letters, 0, out, 0);
+    TubeWritten nothing = tube_write_reply(TUBE_PARALLEL, TUBE_OSWORD, 0, TUBE_REPLY_BLOCK, 0, 0, 0, 0, letters, 0, letters, 0, out, 0);
+    expect("tube_write_reply: no byte into an empty buffer", none.answer == TUBE_DONE && none.length == 0 && nothing.answer == TUBE_DONE && nothing.length == 0 && kept(&one, 0, 0));
+    TubeWritten most = tube_write_reply(TUBE_SERIAL, TUBE_OSWORD, 255, TUBE_REPLY_BLOCK, 0, 0, 0, 0, escapes, 255, letters, 0, out, 510);
     TubeLink word = tube_begin(tube_link(), TUBE_OSWORD, 255).link;
     TubeRan back = tube_run(word, out, 510, lend(&two), three.area + GUARD, lend(&three) + TUBE_OWN_LENGTH, 510 * TUBE_NOTE);
     expect("tube_write_reply: 255 bytes that are all doubled, and read again", most.answer == TUBE_DONE && most.length == 510 && kept(&one, 0, 510)
@@ -601,11 +742,26 @@ static void replies_written(void) {
                                                                                   && kept(&two, 0, 255) && kept(&three, 0, 0));
     out = lend(&one);
     uint8_t ended_line[2] = {'A', 0x0D};
-    int refused = refuses(tube_write_reply(TUBE_OSWORD0, 0, TUBE_REPLY_READ_LINE, 0, 0, 0, 0, block, 0, ended_line, 2, out, AREA), TUBE_BAD_FIELD);
-    for (int i = TUBE_CALLS; i < 256; i++)
-        refused = refused && refuses(tube_write_reply((uint8_t)i, 0, TUBE_REPLY_PLAIN, 0, 0, 0, 0, block, 0, letters, 0, out, AREA), TUBE_BAD_FIELD)
-                  && refuses(tube_write_reply((uint8_t)i, 0, TUBE_REPLY_NONE, 0, 0, 0, 0, block, 0, letters, 256, out, AREA), TUBE_STRING_LONG);
-    expect("tube_write_reply: a return in the line, no such call", refused && kept(&one, 0, 0));
+    int refused = refuses(tube_write_reply(TUBE_SERIAL, TUBE_OSWORD0, 0, TUBE_REPLY_READ_LINE, 0, 0, 0, 0, letters, 0, ended_line, 2, out, AREA), TUBE_BAD_FIELD)
+                  && refuses(tube_write_reply(TUBE_PARALLEL, TUBE_OSWORD0, 0, TUBE_REPLY_READ_LINE, 0, 0, 0, 0, letters, 0, ended_line, 2, out, AREA), TUBE_BAD_FIELD);
+    for (int i = 0; i < 256; i++) {
+        if (i >= TUBE_CALLS)
+            for (unsigned form = TUBE_REPLY_CARRY_A; form <= TUBE_REPLY_NONE; form++)
+                refused = refused && refuses(tube_write_reply((uint8_t)(i & 1), (uint8_t)i, 0, (uint8_t)form, 0, 0, 0, 0, letters, 0, letters, 0, out, AREA), TUBE_UNKNOWN_CODE);
+        if (i > TUBE_PARALLEL)
+            refused = refused && refuses(tube_write_reply((uint8_t)i, TUBE_OSCLI, 0, TUBE_REPLY_ACK, 0, 0, 0, 0, letters, 0, letters, 0, out, AREA), TUBE_BAD_FIELD);
+    }
+    expect("tube_write_reply: a return in the line, no such call, no such carrier", refused && kept(&one, 0, 0));
+
+    /* Everything wrong at once, then each first answer mended: no such call, a long line, a field (the carrier, the form, the block), no room. */
+    int order = refuses(tube_write_reply(9, TUBE_CALLS, 0, TUBE_REPLY_NONE, 0, 0, 0, 0, letters, 1, letters, 256, out, 0), TUBE_UNKNOWN_CODE)
+                && refuses(tube_write_reply(9, TUBE_NO_CALL, 0, 255, 0, 0, 0, 0, letters, 1, letters, 256, out, 0), TUBE_UNKNOWN_CODE)
+                && refuses(tube_write_reply(9, TUBE_OSWORD0, 0, TUBE_REPLY_NONE, 0, 0, 0, 0, letters, 1, letters, 256, out, 0), TUBE_STRING_LONG)
+                && refuses(tube_write_reply(9, TUBE_OSWORD0, 0, TUBE_REPLY_NONE, 0, 0, 0, 0, letters, 1, letters, 255, out, 0), TUBE_BAD_FIELD)
+                && refuses(tube_write_reply(TUBE_PARALLEL, TUBE_OSWORD0, 0, TUBE_REPLY_NONE, 0, 0, 0, 0, letters, 1, letters, 255, out, 0), TUBE_BAD_FIELD)
+                && refuses(tube_write_reply(TUBE_PARALLEL, TUBE_OSWORD0, 0, TUBE_REPLY_READ_LINE, 0, 0, 0, 0, letters, 1, letters, 255, out, 0), TUBE_BAD_FIELD)
+                && refuses(tube_write_reply(TUBE_PARALLEL, TUBE_OSWORD0, 0, TUBE_REPLY_READ_LINE, 0, 0, 0, 0, letters, 0, letters, 255, out, 0), TUBE_BUFFER_SHORT);
+    expect("tube_write_reply: 4 before 6 before 9 before 8", order && kept(&one, 0, 0));
 }
 
 static int gives(TubeGiven g, uint8_t reply, uint8_t carry, uint8_t x, uint8_t y, uint8_t a) {
@@ -646,6 +802,81 @@ static void replies_read(void) {
     expect("tube_read_reply: no byte, no such call", missing && gives(no_call, TUBE_REPLY_NONE, 0, 0, 0, 0) && lies(no_call, 0, 0, 0, 0));
 }
 
+static int takes(TubeTaken b, uint16_t count, uint8_t kind, uint8_t answer) {
+    return b.count == count && b.kind == kind && b.answer == answer;
+}
+
+/* The longest reply of a call with this out length. */
+static uint16_t longest_reply(int call, uint8_t out_length) {
+    static const uint16_t longest[TUBE_CALLS] = {2, 1, 1, 3, 0, TUBE_REPLY_LENGTH, 5, 2, 1, 1, 1, 17, 15};
+    return call == TUBE_OSWORD ? out_length : longest[call];
+}
+
+static void replies_taken(void) {
+    /* Each form as the writer puts it, byte by byte: one lent byte changes, the last one ends it, and the fields come out. */
+    int whole = 1;
+    for (int i = 0; i < FORMS; i++) {
+        uint8_t out[TUBE_REPLY_LENGTH], *reply = lend(&one);
+        TubeWritten w = reply_to(TUBE_PARALLEL, forms[i].call, forms[i].reply, reply_block, forms[i].block, forms[i].text, out, sizeof out);
+        uint16_t count = 0;
+        for (size_t at = 0; at < w.length; at++) {
+            TubeTaken b = tube_reply_step((uint8_t)forms[i].call, 3, count, out[at], reply);
+            whole = whole && takes(b, (uint16_t)(at + 1), at + 1 < w.length ? TUBE_TAKEN_MORE : TUBE_TAKEN_LAST, 0) && kept(&one, 0, at + 1);
+            count = b.count;
+        }
+        TubeGiven g = tube_read_reply((uint8_t)forms[i].call, 3, reply, count);
+        whole = whole && w.answer == TUBE_DONE && count == w.length && memcmp(reply, out, count) == 0 && g.reply == forms[i].reply
+                && memcmp(reply + g.block_start, reply_block, g.block_length) == 0 && g.block_length == forms[i].block
+                && memcmp(reply + g.text_start, letters, g.text_length) == 0 && g.text_length == forms[i].text;
+    }
+    expect("tube_reply_step: each call and form as it is written", whole);
+
+    int any = 1, place = 1;
+    for (int byte = 0; byte < 256; byte++) {
+        uint8_t *reply = lend(&one);
+        TubeTaken first = tube_reply_step(TUBE_OSBGET, 0, 0, (uint8_t)byte, reply), second = tube_reply_step(TUBE_OSBGET, 0, 1, (uint8_t)byte, reply);
+        any = any && takes(first, 1, TUBE_TAKEN_MORE, 0) && takes(second, 2, TUBE_TAKEN_LAST, 0) && reply[0] == byte && reply[1] == byte && kept(&one, 0, 2);
+        TubeTaken head = tube_reply_step(TUBE_OSWORD0, 0, 0, (uint8_t)byte, reply), line = tube_reply_step(TUBE_OSWORD0, 0, 1, (uint8_t)byte, reply);
+        any = any && takes(head, 1, byte & 0x80 ? TUBE_TAKEN_LAST : TUBE_TAKEN_MORE, 0) && takes(line, 2, byte == 0x0D ? TUBE_TAKEN_LAST : TUBE_TAKEN_MORE, 0);
+    }
+    expect("tube_reply_step: every byte is data", any);
+    for (int call = 0; call < TUBE_CALLS; call++)
+        for (uint16_t count = 0; count < longest_reply(call, 255); count++) {
+            uint8_t *reply = lend(&one);
+            const int last = count + 1 == longest_reply(call, 255);
+            TubeTaken b = tube_reply_step((uint8_t)call, 255, count, 0x0D, reply);
+            place = place && takes(b, (uint16_t)(count + 1), last || (call == TUBE_OSWORD0 && count > 0) ? TUBE_TAKEN_LAST : TUBE_TAKEN_MORE, 0) && reply[count] == 0x0D
+                    && kept(&one, count, 1);
+        }
+    expect("tube_reply_step: at every place one lent byte changes", place);
+
+    static uint8_t line[TUBE_REPLY_LENGTH];
+    memset(line, 'x', sizeof line);
+    line[TUBE_REPLY_LENGTH - 1] = 0x0D;
+    uint8_t *reply = lend(&one);
+    TubeTaken b = {0, TUBE_TAKEN_MORE, 0};
+    for (size_t i = 0; i < sizeof line && b.kind == TUBE_TAKEN_MORE; i++)
+        b = tube_reply_step(TUBE_OSWORD0, 0, b.count, line[i], reply);
+    int lines = takes(b, TUBE_REPLY_LENGTH, TUBE_TAKEN_LAST, 0) && memcmp(reply, line, sizeof line) == 0 && kept(&one, 0, TUBE_REPLY_LENGTH);
+    reply = lend(&one);
+    TubeTaken over = tube_reply_step(TUBE_OSWORD0, 0, TUBE_REPLY_LENGTH - 1, 'x', reply);
+    expect("tube_reply_step: a line of 255 bytes and one of 256", lines && takes(over, TUBE_REPLY_LENGTH - 1, TUBE_TAKEN_REFUSED, TUBE_STRING_LONG) && kept(&one, 0, 0));
+
+    /* 4 before 7 before 6, the count and the bytes as they were; `out_length` is read for OSWORD only. */
+    int refused = takes(tube_reply_step(TUBE_OSWORD, 0, 0, 'x', reply), 0, TUBE_TAKEN_REFUSED, TUBE_STOPPED)
+                  && takes(tube_reply_step(TUBE_OSWORD0, 0, TUBE_REPLY_LENGTH, 'x', reply), TUBE_REPLY_LENGTH, TUBE_TAKEN_REFUSED, TUBE_STOPPED);
+    for (int i = 0; i < 256; i++) {
+        const uint8_t answer = i < TUBE_CALLS ? TUBE_STOPPED : TUBE_UNKNOWN_CODE;
+        const uint16_t longest = i < TUBE_CALLS ? longest_reply(i, 7) : 0;
+        refused = refused && takes(tube_reply_step((uint8_t)i, 7, longest, 'x', reply), longest, TUBE_TAKEN_REFUSED, answer)
+                  && takes(tube_reply_step((uint8_t)i, 7, TUBE_REPLY_LENGTH + 1, 0x0D, reply), TUBE_REPLY_LENGTH + 1, TUBE_TAKEN_REFUSED, answer)
+                  && takes(tube_reply_step((uint8_t)i, 7, UINT16_MAX, 'x', reply), UINT16_MAX, TUBE_TAKEN_REFUSED, answer);
+        if (i >= TUBE_CALLS)
+            refused = refused && takes(tube_reply_step((uint8_t)i, 255, TUBE_REPLY_LENGTH - 1, 'x', reply), TUBE_REPLY_LENGTH - 1, TUBE_TAKEN_REFUSED, TUBE_UNKNOWN_CODE);
+    }
+    expect("tube_reply_step: no such call, no place, 4 before 7 before 6", refused && kept(&one, 0, 0));
+}
+
 int main(void) {
     for (size_t i = 0; i < sizeof letters; i++)
         letters[i] = (uint8_t)('A' + i % 26);
@@ -655,6 +886,7 @@ int main(void) {
     accesses();
     scripts();
     requests_written();
+    requests_taken_apart();
     names_found();
     requests_read();
     calls_begun();
@@ -662,6 +894,7 @@ int main(void) {
     runs();
     replies_written();
     replies_read();
+    replies_taken();
     printf("%d passed, %d failed\n", run - failed, failed);
     return failed != 0;
 }

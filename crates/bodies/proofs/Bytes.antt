@@ -5,8 +5,7 @@ use mathlib.Core.Bool.{false, cond}
 use mathlib.Core.List.{List, [], _∷_}
 use native.Mathlib.Omega.{arith}
 use lib.Dec.{eqb}
-use lib.ListN.{length, getD, take, drop, length-drop}
-use lib.Seq.{take-all}
+use lib.ListN.{length, getD}
 use Rattle.serial_rules.specs.Call.{return}
 use Rattle.serial_rules.specs.Body.{more, done, refused, stringTurn, fixedTurn, wordTurn, findTurn, ended}
 
@@ -46,7 +45,3 @@ ended-last (x ∷ []) h = refl
 ended-last (x ∷ y ∷ s) h =
     let n : suc (suc (length s)) - 1 ≡ suc (suc (length s) - 1) = omega arith in
     rw (ended-last (y ∷ s) (omega arith), n)
-
--- the part from k to the end
-pub tail : (k : ℕ) (s : List ℕ) → take (length s - k) (drop k s) ≡ drop k s
-tail k s = take-all (length s - k) (drop k s) (simp length-drop (omega arith))

@@ -82,13 +82,13 @@ fn file_turn(s: &[u8], b: u8) -> Turn
     ensures { λ r. ⌜ turnOf r ≡ fileTurn (now (s .entry)) b ⌝ }
 {
     let n = s.len();
-    if n < 16 {
+    if n < Text::FILE_BLOCK {
         return Turn::More;
     }
-    if name_ended(&s[16..]) {
+    if name_ended(&s[Text::FILE_BLOCK..]) {
         return Turn::Done;
     }
-    name_turn(n - 16, b)
+    name_turn(n - Text::FILE_BLOCK, b)
 }
 
 // The turn of a data byte, by the request's code.

@@ -11,13 +11,14 @@ use Rattle.serial_rules.specs.Escape.{escape}
 use Rattle.serial_rules.specs.Call.{Call, osrdch, oscli, osbyteLow, osbyteHigh, osword, osword0, osargs, osbget, osbput, osfindClose, osfindOpen, osfile, osgbpb, codeOf, bodyOf, blockOk, hasString, numbersOk, hasReturn, callOk, heading, styleOk, encodingOf}
 use Rattle.serial_rules.proofs.Trip.{and-both}
 use Rattle.serial_rules.proofs.Replies.{no-text}
-use Rattle.room.specs.Carriers.{carrierOf, coded}
-use Rattle.fields.specs.Promise.{Length-done}
+use Rattle.carrier.specs.declared.Carrier.{Carrier}
+use Rattle.carrier.specs.declared.Carrier.the-variants.{Serial, Parallel}
+use Rattle.carrier.specs.Carriers.{carrierOf}
+use Rattle.room.specs.Carriers.{coded}
+use Rattle.fields.proofs.Padded.{padded-take, padded-fits}
 use Rattle.fields.proofs.Wrote.{no-string}
-use Rattle.calls.specs.declared.Call as code
 use Rattle.calls.specs.declared.Row.{Row}
-use Rattle.calls.specs.Calls.{callOf}
-use Rattle.calls.specs.Rows.{lengthByte, headStart, headIn, tailIn, givenOk, blockLength, headOf, tailOf, Row-done}
+use Rattle.calls.specs.Rows.{lengthByte, headStart, headIn, tailIn, givenOk, blockLength, headOf, tailOf, rowOf, rowRaw}
 
 -- The length that a row asks of the block is the one that the call's rule asks; OSWORD takes every length that is a byte.
 any-byte : (n : ℕ) (t : Bool) → leb n 255 ≡ t → eqb n (cond t n 0) ≡ t
@@ -74,32 +75,43 @@ code-small (osfindOpen a) = omega arith
 code-small (osfile a) = omega arith
 code-small (osgbpb a) = omega arith
 
--- A row is a call's where it is that of the call that is known, cell by cell.
-pub filled : {given known : code.Call} {n : ℕ} {r row : Row} → given ≡ known → r ≡ row → row .code ≡ codeOf (callOf known) → row .good ≡ numbersOk (callOf known)
-    → row .block ≡ blockLength (callOf known) n → row .string ≡ hasString (callOf known) → headIn row ≡ headOf (callOf known) n
-    → tailIn row ≡ tailOf (callOf known) → row .before ≤ length (row .head) → row .behind ≤ length (row .tail) → Row-done (callOf given) n r
-filled {n = n} is e code good block string head tail before behind =
-    rw (is, e) (record { code-is = code; good-is = good; block-is = block; string-is = string; head-is = head; tail-is = tail; before-fits = before; behind-fits = behind })
+-- The numbers of the row of a call are those of its body, and its arrays have room for them; its code is small.
+module _ (call : Call) (n : ℕ) where
+  pub row-head : headIn (rowOf call n) ≡ headOf call n
+  unfolding rowOf
+  row-head = padded-take 3 (headOf call n)
 
--- What a row says of its call.
-module _ {call : Call} {n : ℕ} {row : Row} (b t : List ℕ) (d : Row-done call n row) (is : n ≡ lengthByte (length b)) where
-  pub rules-same : givenOk row b t ≡ callOk call b t
-  unfolding givenOk callOk
-  rules-same = rw (d .good-is, d .block-is, d .string-is, is, block-same)
+  pub row-tail : tailIn (rowOf call n) ≡ tailOf call
+  unfolding rowOf
+  row-tail = padded-take 2 (tailOf call)
 
-  pub code-fits : row .code ≤ 22
-  code-fits = omega (arith, d .code-is, code-small call)
+  pub row-code : rowOf call n .code ≤ 22
+  unfolding rowOf
+  row-code = code-small call
 
-  pub written : (flag : Bool) (style : ℕ) {out left : List ℕ} {m : ℕ} → callOk call b t ≡ true
-      → Length-done (heading (carrierOf flag) style (row .code) ++ coded flag (headIn row ++ (b ++ (t ++ tailIn row)))) out m left
-      → Length-done (encodingOf (carrierOf flag) style call b t) out m left
-  unfolding encodingOf coded callOk
-  written flag style ok w =
+  pub row-before : rowOf call n .before ≤ length (rowOf call n .head)
+  unfolding rowOf
+  row-before = padded-fits 3 (headOf call n)
+
+  pub row-behind : rowOf call n .behind ≤ length (rowOf call n .tail)
+  unfolding rowOf
+  row-behind = padded-fits 2 (tailOf call)
+
+-- What the row of a call says of it.
+module _ (call : Call) (b t : List ℕ) where
+  pub rules-same : givenOk (rowOf call (lengthByte (length b))) b t ≡ callOk call b t
+  unfolding rowOf givenOk callOk
+  rules-same = rw block-same
+
+  pub row-encoding : (carrier : Carrier) (style : ℕ) → callOk call b t ≡ true
+      → rowRaw carrier style (rowOf call (lengthByte (length b))) b t ≡ encodingOf (carrierOf carrier) style call b t
+  unfolding rowOf encodingOf coded callOk
+  row-encoding carrier style ok =
       let strings = (hasString call || eqb (length t) 0) && not (hasReturn t) in
       let y = and-both (numbersOk call) (blockOk call (length b) && strings) ok in
       let z = and-both (blockOk call (length b)) strings (y .1) in
       let k = and-both (hasString call || eqb (length t) 0) (not (hasReturn t)) (z .1) in
-      rw (d .code-is, d .head-is, d .tail-is, is, body-same call b t (z .0) (k .0)) at w
+      rw (row-head, row-tail, body-same call b t (z .0) (k .0))
 
 -- What is given against a row, after the test of the style: the first that is broken refuses, and a string stands only where the row has one.
 module _ {style : Bool} (row : Row) (b t : List ℕ) where
@@ -124,15 +136,15 @@ module _ {style : Bool} (row : Row) (b t : List ℕ) where
   string-missing e good block string = rw (e, good, eq-eqb (length b) (row .block) block, string) (no-string t)
 
 -- The heading is the tail of the escape and the mark: both, or on the parallel side the second, which is the plain code.
-pub style-fits : (flag : Bool) (style : ℕ) → styleOk (carrierOf flag) style ≡ true → style ≤ 3
-style-fits true style h = leb-true style 3 h
-style-fits false style h = omega (arith, eqb-true style 0 h)
+pub style-fits : (carrier : Carrier) (style : ℕ) → styleOk (carrierOf carrier) style ≡ true → style ≤ 3
+style-fits Serial style h = leb-true style 3 h
+style-fits Parallel style h = omega (arith, eqb-true style 0 h)
 
-pub start-fits : (flag : Bool) {from : ℕ} → from ≡ headStart flag → from ≤ 1
-start-fits true e = omega arith
-start-fits false e = omega arith
+pub start-fits : (carrier : Carrier) {from : ℕ} → from ≡ headStart carrier → from ≤ 1
+start-fits Serial e = omega arith
+start-fits Parallel e = omega arith
 
-pub heading-same : (flag : Bool) (style code : ℕ) {from : ℕ} → styleOk (carrierOf flag) style ≡ true → from ≡ headStart flag
-    → take (2 - from) (drop from (escape ∷ (style * 32 + code) ∷ [])) ≡ heading (carrierOf flag) style code
-heading-same true style code ok e = rw e
-heading-same false style code ok e = let plain : style * 32 + code ≡ code = omega (arith, eqb-true style 0 ok) in rw (e, plain)
+pub heading-same : (carrier : Carrier) (style code : ℕ) {from : ℕ} → styleOk (carrierOf carrier) style ≡ true → from ≡ headStart carrier
+    → take (2 - from) (drop from (escape ∷ (style * 32 + code) ∷ [])) ≡ heading (carrierOf carrier) style code
+heading-same Serial style code ok e = rw e
+heading-same Parallel style code ok e = let plain : style * 32 + code ≡ code = omega (arith, eqb-true style 0 ok) in rw (e, plain)

@@ -1,12 +1,16 @@
--- The request table as the writer reads it: what stands in a row, and what a row says of a call.
+-- The request table as the writer reads it: the row of a call, and what a row asks of what is given.
 use Prim.Native.Nat.{ℕ, _≤_}
 use mathlib.Core.Path.{_≡_}
 use mathlib.Core.Bool.{Bool, true, cond, not, _&&_, _||_}
-use mathlib.Core.List.{List, [], _∷_}
+use mathlib.Core.List.{List, [], _∷_, _++_}
 use lib.Dec.{eqb, leb}
 use lib.ListN.{length, take}
-use Rattle.serial_rules.specs.Call.{Call, osrdch, oscli, osbyteLow, osbyteHigh, osword, osword0, osargs, osbget, osbput, osfindClose, osfindOpen, osfile, osgbpb, return, codeOf, numbersOk, hasString, hasReturn, styleOk}
-use Rattle.room.specs.Carriers.{carrierOf}
+use Rattle.serial_rules.specs.Call.{Call, fileBlock, osrdch, oscli, osbyteLow, osbyteHigh, osword, osword0, osargs, osbget, osbput, osfindClose, osfindOpen, osfile, osgbpb, return, codeOf, numbersOk, hasString, hasReturn, styleOk, heading}
+use Rattle.carrier.specs.declared.Carrier.{Carrier}
+use Rattle.carrier.specs.declared.Carrier.the-variants.{Serial, Parallel}
+use Rattle.carrier.specs.Carriers.{carrierOf}
+use Rattle.room.specs.Carriers.{coded}
+use Rattle.fields.specs.Padded.{padded}
 use Rattle.calls.specs.declared.Row.{Row}
 
 -- a length as a byte
@@ -14,8 +18,9 @@ abbrev pub lengthByte : ℕ → ℕ
 lengthByte n = cond (leb n 255) n 0
 
 -- the heading without the escape on the parallel side
-abbrev pub headStart : Bool → ℕ
-headStart serial = cond serial 0 1
+abbrev pub headStart : Carrier → ℕ
+headStart Serial = 0
+headStart Parallel = 1
 
 abbrev pub rowWith : ℕ → Bool → ℕ → Bool → List ℕ → ℕ → List ℕ → ℕ → Row
 rowWith code good block string head before tail behind =
@@ -45,7 +50,7 @@ blockLength (osbget y) n = 0
 blockLength (osbput y a) n = 0
 blockLength (osfindClose y) n = 0
 blockLength (osfindOpen a) n = 0
-blockLength (osfile a) n = 16
+blockLength (osfile a) n = fileBlock
 blockLength (osgbpb a) n = 13
 
 -- the numbers of a body before the block and the string, where the block's length is n
@@ -80,20 +85,19 @@ tailOf (osfindOpen a) = return ∷ []
 tailOf (osfile a) = return ∷ a ∷ []
 tailOf (osgbpb a) = a ∷ []
 
--- What a row says of a call whose block has the length n.
-pub record Row-done (call : Call) (n : ℕ) (row : Row) : Type 0 where
-  pub code-is : row .code ≡ codeOf call
-  pub good-is : row .good ≡ numbersOk call
-  pub block-is : row .block ≡ blockLength call n
-  pub string-is : row .string ≡ hasString call
-  pub head-is : headIn row ≡ headOf call n
-  pub tail-is : tailIn row ≡ tailOf call
-  pub before-fits : row .before ≤ length (row .head)
-  pub behind-fits : row .behind ≤ length (row .tail)
+-- the row of a call whose block has the length n: its numbers stand in arrays of three and two places
+unfoldable pub rowOf : Call → ℕ → Row
+rowOf call n =
+    rowWith (codeOf call) (numbersOk call) (blockLength call n) (hasString call) (padded 3 (headOf call n)) (length (headOf call n)) (padded 2 (tailOf call))
+    (length (tailOf call))
+
+-- the raw bytes of the request of a row, in a style, with the block b and the string t
+abbrev pub rowRaw : Carrier → ℕ → Row → List ℕ → List ℕ → List ℕ
+rowRaw carrier style row b t = heading (carrierOf carrier) style (row .code) ++ coded carrier (headIn row ++ (b ++ (t ++ tailIn row)))
 
 -- What a row needs to be written in a style.
-pub record Writable (serial : Bool) (style : ℕ) (row : Row) : Type 0 where
-  pub style-kept : styleOk (carrierOf serial) style ≡ true
+pub record Writable (carrier : Carrier) (style : ℕ) (row : Row) : Type 0 where
+  pub style-kept : styleOk (carrierOf carrier) style ≡ true
   pub code-small : row .code ≤ 22
   pub before-fits : row .before ≤ length (row .head)
   pub behind-fits : row .behind ≤ length (row .tail)

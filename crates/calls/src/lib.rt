@@ -2,9 +2,10 @@
 ghost use mathlib.Core.Path.{_≡_};
 ghost use mathlib.Core.Bool.{_&&_};
 ghost use Rattle.serial_rules.specs.Call.{styleOk};
-ghost use Rattle.room.specs.Carriers.{carrierOf};
+ghost use Rattle.carrier.specs.Carriers.{carrierOf};
 ghost use Rattle.calls.specs.Calls.{callOf};
-ghost use Rattle.calls.specs.Rows.{lengthByte, rowWith, givenOk, Row-done};
+ghost use Rattle.calls.specs.Rows.{lengthByte, rowWith, rowOf, givenOk};
+use carrier::Carrier;
 use strings::Text;
 
 // A call with its numbers; its block and its string are given beside it.
@@ -46,7 +47,7 @@ pub struct Row {
 
 // The row of a call, whose block has the length `length`.
 pub fn row_of(call: Call, length: u8) -> Row
-    ensures { λ r. ⌜ Row-done (callOf call) length r ⌝ }
+    ensures { λ r. ⌜ r ≡ rowOf (callOf call) length ⌝ }
 {
     match call {
         Call::Osrdch => cells(0x00, true, 0, false, [0, 0, 0], 0, [0, 0], 0),
@@ -100,10 +101,10 @@ fn cells(
 }
 
 // Whether the style and all that is given keep the rules.
-pub fn given_ok(serial: bool, style: u8, row: Row, block: &[u8], text: &[u8]) -> bool
-    ensures { λ r. ⌜ r ≡ (styleOk (carrierOf serial) style && givenOk row (now (block .entry)) (now (text .entry))) ⌝ }
+pub fn given_ok(carrier: Carrier, style: u8, row: Row, block: &[u8], text: &[u8]) -> bool
+    ensures { λ r. ⌜ r ≡ (styleOk (carrierOf carrier) style && givenOk row (now (block .entry)) (now (text .entry))) ⌝ }
 {
-    if !style_ok(serial, style) {
+    if !carrier.has_style(style) {
         return false;
     }
     if !row.good {
@@ -116,14 +117,4 @@ pub fn given_ok(serial: bool, style: u8, row: Row, block: &[u8], text: &[u8]) ->
         return !strings::has_return(text);
     }
     text.len() == 0
-}
-
-// Styles 0 to 3 on the serial lead, 0 on the parallel side.
-fn style_ok(serial: bool, style: u8) -> bool
-    ensures { λ r. ⌜ r ≡ styleOk (carrierOf serial) style ⌝ }
-{
-    if serial {
-        return style <= 3;
-    }
-    style == 0
 }

@@ -1,2 +1,4 @@
+pub mod Bytes
 pub mod Laws
+pub mod Padded
 pub mod Wrote

@@ -1,13 +1,12 @@
 -- What a writer promises.
 use Prim.Native.Nat.{ℕ}
 use mathlib.Core.Path.{_≡_}
-use mathlib.Core.Bool.{Bool, cond}
+use mathlib.Core.Bool.{cond}
 use mathlib.Core.List.{List, _++_}
 use lib.Dec.{eqb, ltb}
 use lib.ListN.{length, drop}
 use Rattle.fields.specs.declared.Written.{Written}
 use Rattle.fields.specs.declared.Written.the-variants.{Done, TooLong, BadField, NoRoom}
-use Rattle.room.specs.Carriers.{fieldsRaw}
 
 -- Document 01's number of each answer, and the bytes written.
 abbrev pub number : Written → ℕ
@@ -32,12 +31,3 @@ pub record Writer-done (n : ℕ) (encoding out : List ℕ) (r : Written) (left :
 -- Of an encoding whose checks are passed only the room is left to test: 8 exactly where the whole does not fit.
 abbrev pub Encoded : List ℕ → List ℕ → Written → List ℕ → Type 0
 Encoded encoding out r left = Writer-done (cond (ltb (length out) (length encoding)) 8 0) encoding out r left
-
--- Of a heading and three fields.
-abbrev pub Fields-done : Bool → List ℕ → List ℕ → List ℕ → List ℕ → List ℕ → Written → List ℕ → Type 0
-Fields-done serial h a b c out r left = Encoded (fieldsRaw serial h a b c) out r left
-
--- The same by the length alone, 0 where the whole does not fit.
-pub record Length-done (encoding out : List ℕ) (n : ℕ) (left : List ℕ) : Type 0 where
-  pub length-is : n ≡ cond (ltb (length out) (length encoding)) 0 (length encoding)
-  pub bytes-are : left ≡ cond (ltb (length out) (length encoding)) out (encoding ++ drop (length encoding) out)

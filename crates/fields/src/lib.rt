@@ -1,14 +1,16 @@
-// The writer that every encoding is made with: a heading, then up to four fields of data bytes.
+// The writer that every encoding is made with: a heading, then four fields of data bytes.
+use carrier::Carrier;
+use escape::Piece;
 ghost use Prim.Native.Nat.{_≤_};
 ghost use mathlib.Core.Path.{_≡_};
-ghost use mathlib.Core.List.{_++_};
+ghost use mathlib.Core.List.{[], _∷_, _++_};
 ghost use mathlib.Core.Bool.{_||_};
 ghost use lib.Dec.{eqb, ltb};
 ghost use lib.ListN.{length};
 ghost use Rattle.serial_rules.specs.Escape.{escape, escaped, escapes};
 ghost use Rattle.escape.specs.Put.{Put};
 ghost use Rattle.room.specs.Carriers.{coded, partsRaw};
-ghost use Rattle.fields.specs.Promise.{Fields-done, Length-done};
+ghost use Rattle.fields.specs.Promise.{Encoded};
 
 // The answers of a writer: the length of the encoding written; a string over 255 bytes; a field that breaks its rule; too little room.
 pub enum Written {
@@ -18,46 +20,23 @@ pub enum Written {
     NoRoom,
 }
 
-// Writes a heading as it is, then three fields of data bytes, one behind the other, into the start of `out`: on the serial lead each
+// Writes a heading as it is, then four fields of data bytes, one behind the other, into the start of `out`: on the serial lead each
 // escape byte doubled, on the parallel side as they are. Where the whole does not fit, nothing is written.
 pub fn write_fields(
-    serial: bool,
-    heading: &[u8],
-    first: &[u8],
-    second: &[u8],
-    third: &[u8],
-    out: &mut [u8],
-) -> Written
-    ensures { λ r. ⌜ Fields-done serial (now (heading .entry)) (now (first .entry)) (now (second .entry)) (now (third .entry)) (now (out .entry)) r (now (out .exit)) ⌝ }
-{
-    let n = write_length(serial, heading, first, second, third, &[], out);
-    if 0 < n {
-        return Written::Done(n);
-    }
-    let empty = room::fields_fit(false, heading, first, second, third, 0);
-    if empty {
-        return Written::Done(0);
-    }
-    Written::NoRoom
-}
-
-// The same for four fields, answered by the length alone, 0 where the whole does not fit: a number comes back in a register, an enum
-// through memory (docs/DECISIONS.md, 'Speed').
-pub fn write_length(
-    serial: bool,
+    carrier: Carrier,
     heading: &[u8],
     first: &[u8],
     second: &[u8],
     third: &[u8],
     fourth: &[u8],
     out: &mut [u8],
-) -> usize
-    ensures { λ r. ⌜ Length-done (partsRaw serial (now (heading .entry)) (now (first .entry)) (now (second .entry)) (now (third .entry)) (now (fourth .entry))) (now (out .entry)) r (now (out .exit)) ⌝ }
+) -> Written
+    ensures { λ r. ⌜ Encoded (partsRaw carrier (now (heading .entry)) (now (first .entry)) (now (second .entry)) (now (third .entry)) (now (fourth .entry))) (now (out .entry)) r (now (out .exit)) ⌝ }
 {
-    if room::parts_fit(serial, heading, first, second, third, fourth, out.len()) {
-        return put_parts(serial, heading, first, second, third, fourth, out);
+    if room::parts_fit(carrier, heading, first, second, third, fourth, out.len()) {
+        return Written::Done(put_parts(carrier, heading, first, second, third, fourth, out));
     }
-    0
+    Written::NoRoom
 }
 
 // Whether one of the bytes is an escape byte. The loop has no other way out, so that it tests many bytes at once.
@@ -76,16 +55,12 @@ fn has_escape(bytes: &[u8]) -> bool
 fn or_escape(found: bool, byte: u8) -> bool
     ensures { λ r. ⌜ r ≡ (found || eqb byte escape) ⌝ }
 {
-    if byte == escape::Piece::ESCAPE {
-        true
-    } else {
-        found
-    }
+    if byte == Piece::ESCAPE { true } else { found }
 }
 
 // Writes the whole, for which there is room; returns how many bytes. Each field goes into the tail that those before it leave.
 fn put_parts(
-    serial: bool,
+    carrier: Carrier,
     heading: &[u8],
     first: &[u8],
     second: &[u8],
@@ -93,71 +68,93 @@ fn put_parts(
     fourth: &[u8],
     out: &mut [u8],
 ) -> usize
-    requires { ⌜ length (partsRaw serial (now heading) (now first) (now second) (now third) (now fourth)) ≤ length (now out) ⌝ }
-    ensures { λ r. ⌜ Put (partsRaw serial (now (heading .entry)) (now (first .entry)) (now (second .entry)) (now (third .entry)) (now (fourth .entry))) (now (out .entry)) (now (out .exit)) r ⌝ }
+    requires { ⌜ length (partsRaw carrier (now heading) (now first) (now second) (now third) (now fourth)) ≤ length (now out) ⌝ }
+    ensures { λ r. ⌜ Put (partsRaw carrier (now (heading .entry)) (now (first .entry)) (now (second .entry)) (now (third .entry)) (now (fourth .entry))) (now (out .entry)) (now (out .exit)) r ⌝ }
 {
     let at = put_plain(heading, out);
-    let n = put_four(serial, first, second, third, fourth, &mut out[at..]);
+    let n = put_four(carrier, first, second, third, fourth, &mut out[at..]);
     at + n
 }
 
 fn put_four(
-    serial: bool,
+    carrier: Carrier,
     first: &[u8],
     second: &[u8],
     third: &[u8],
     fourth: &[u8],
     out: &mut [u8],
 ) -> usize
-    requires { ⌜ length (coded serial (now first ++ (now second ++ (now third ++ now fourth)))) ≤ length (now out) ⌝ }
-    ensures { λ r. ⌜ Put (coded serial (now (first .entry) ++ (now (second .entry) ++ (now (third .entry) ++ now (fourth .entry))))) (now (out .entry)) (now (out .exit)) r ⌝ }
+    requires { ⌜ length (coded carrier (now first ++ (now second ++ (now third ++ now fourth)))) ≤ length (now out) ⌝ }
+    ensures { λ r. ⌜ Put (coded carrier (now (first .entry) ++ (now (second .entry) ++ (now (third .entry) ++ now (fourth .entry))))) (now (out .entry)) (now (out .exit)) r ⌝ }
 {
-    let at = put_data(serial, first, out);
-    let n = put_three(serial, second, third, fourth, &mut out[at..]);
+    let at = put_data(carrier, first, out);
+    let n = put_three(carrier, second, third, fourth, &mut out[at..]);
     at + n
 }
 
-fn put_three(serial: bool, first: &[u8], second: &[u8], third: &[u8], out: &mut [u8]) -> usize
-    requires { ⌜ length (coded serial (now first ++ (now second ++ now third))) ≤ length (now out) ⌝ }
-    ensures { λ r. ⌜ Put (coded serial (now (first .entry) ++ (now (second .entry) ++ now (third .entry)))) (now (out .entry)) (now (out .exit)) r ⌝ }
+fn put_three(carrier: Carrier, first: &[u8], second: &[u8], third: &[u8], out: &mut [u8]) -> usize
+    requires { ⌜ length (coded carrier (now first ++ (now second ++ now third))) ≤ length (now out) ⌝ }
+    ensures { λ r. ⌜ Put (coded carrier (now (first .entry) ++ (now (second .entry) ++ now (third .entry)))) (now (out .entry)) (now (out .exit)) r ⌝ }
 {
-    let at = put_data(serial, first, out);
-    let n = put_two(serial, second, third, &mut out[at..]);
+    let at = put_data(carrier, first, out);
+    let n = put_two(carrier, second, third, &mut out[at..]);
     at + n
 }
 
-fn put_two(serial: bool, first: &[u8], second: &[u8], out: &mut [u8]) -> usize
-    requires { ⌜ length (coded serial (now first ++ now second)) ≤ length (now out) ⌝ }
-    ensures { λ r. ⌜ Put (coded serial (now (first .entry) ++ now (second .entry))) (now (out .entry)) (now (out .exit)) r ⌝ }
+fn put_two(carrier: Carrier, first: &[u8], second: &[u8], out: &mut [u8]) -> usize
+    requires { ⌜ length (coded carrier (now first ++ now second)) ≤ length (now out) ⌝ }
+    ensures { λ r. ⌜ Put (coded carrier (now (first .entry) ++ now (second .entry))) (now (out .entry)) (now (out .exit)) r ⌝ }
 {
-    let at = put_data(serial, first, out);
-    let n = put_data(serial, second, &mut out[at..]);
+    let at = put_data(carrier, first, out);
+    let n = put_data(carrier, second, &mut out[at..]);
     at + n
 }
 
 // Writes data bytes as they are, and on the serial lead, where there is an escape byte, with each of these doubled.
-fn put_data(serial: bool, bytes: &[u8], out: &mut [u8]) -> usize
-    requires { ⌜ length (coded serial (now bytes)) ≤ length (now out) ⌝ }
-    ensures { λ r. ⌜ Put (coded serial (now (bytes .entry))) (now (out .entry)) (now (out .exit)) r ⌝ }
+fn put_data(carrier: Carrier, bytes: &[u8], out: &mut [u8]) -> usize
+    requires { ⌜ length (coded carrier (now bytes)) ≤ length (now out) ⌝ }
+    ensures { λ r. ⌜ Put (coded carrier (now (bytes .entry))) (now (out .entry)) (now (out .exit)) r ⌝ }
 {
-    if !serial {
-        return put_plain(bytes, out);
+    match carrier {
+        Carrier::Serial => put_serial(bytes, out),
+        Carrier::Parallel => put_plain(bytes, out),
     }
+}
+
+// On the serial lead.
+fn put_serial(bytes: &[u8], out: &mut [u8]) -> usize
+    requires { ⌜ length (escaped (now bytes)) ≤ length (now out) ⌝ }
+    ensures { λ r. ⌜ Put (escaped (now (bytes .entry))) (now (out .entry)) (now (out .exit)) r ⌝ }
+{
     if has_escape(bytes) {
-        return put_escaped(bytes, out);
+        return put_bytes(bytes, out);
     }
     put_plain(bytes, out)
 }
 
 // Writes data bytes with each escape byte doubled.
-fn put_escaped(bytes: &[u8], out: &mut [u8]) -> usize
+fn put_bytes(bytes: &[u8], out: &mut [u8]) -> usize
     requires { ⌜ length (escaped (now bytes)) ≤ length (now out) ⌝ }
     ensures { λ r. ⌜ Put (escaped (now (bytes .entry))) (now (out .entry)) (now (out .exit)) r ⌝ }
 {
-    match escape::write_data(bytes, out) {
-        escape::Written::Done(n) => n,
-        escape::Written::NoRoom => 0,
+    let mut at: usize = 0;
+    let mut i: usize = 0;
+    while i < bytes.len() {
+        at += put_byte(bytes[i], &mut out[at..]);
+        i += 1;
     }
+    at
+}
+
+// The second store is to the next place where the byte is the escape, else to the same: no branch waits for the byte.
+fn put_byte(byte: u8, out: &mut [u8]) -> usize
+    requires { ⌜ length (escaped (byte ∷ [])) ≤ length (now out) ⌝ }
+    ensures { λ r. ⌜ Put (escaped (byte ∷ [])) (now (out .entry)) (now (out .exit)) r ⌝ }
+{
+    let more = escape::is_escape(byte);
+    out[0] = byte;
+    out[more] = byte;
+    1 + more
 }
 
 // Writes data bytes as they are.

@@ -17,6 +17,10 @@ flagNumber given set = cond set (cond (eqb given 0) 1 given) 0
 abbrev pub flatWritten : Written → FlatWritten
 flatWritten r = record { length = count r; answer = number r }
 
+-- that number where nothing was written
+abbrev pub unwrittenWith : ℕ → FlatWritten
+unwrittenWith n = record { length = 0; answer = n }
+
 -- the length of a name, or the number of its refusal
 abbrev pub flatName : Text → FlatName
 flatName (Found n) = record { length = n; answer = 0 }

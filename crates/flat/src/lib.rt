@@ -1,6 +1,6 @@
 // What the flat records for callers in C share: a flag kept as a number, what a writer gives, and a name found in a body.
 ghost use mathlib.Core.Path.{_≡_};
-ghost use Rattle.flat.specs.Flat.{flagNumber, flatWritten, flatName};
+ghost use Rattle.flat.specs.Flat.{flagNumber, flatWritten, unwrittenWith, flatName};
 use fields::Written;
 use strings::Text;
 
@@ -20,18 +20,19 @@ pub fn flat_written(written: Written) -> FlatWritten
             length: n,
             answer: 0,
         },
-        Written::TooLong => FlatWritten {
-            length: 0,
-            answer: 6,
-        },
-        Written::BadField => FlatWritten {
-            length: 0,
-            answer: 9,
-        },
-        Written::NoRoom => FlatWritten {
-            length: 0,
-            answer: 8,
-        },
+        Written::TooLong => unwritten(6),
+        Written::BadField => unwritten(9),
+        Written::NoRoom => unwritten(8),
+    }
+}
+
+// The flat result where nothing was written.
+pub fn unwritten(answer: u8) -> FlatWritten
+    ensures { λ r. ⌜ r ≡ unwrittenWith answer ⌝ }
+{
+    FlatWritten {
+        length: 0,
+        answer: answer,
     }
 }
 

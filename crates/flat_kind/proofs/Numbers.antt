@@ -1,13 +1,10 @@
 -- The conversions between a kind and its number, there and back.
 use Prim.Native.Nat.{ℕ, zero, suc, _≤_, _<_}
 use native.Mathlib.Omega.{arith}
-use mathlib.Core.Path.{_≡_, refl, ap, _∙_}
-use mathlib.Core.List.{List}
-use Rattle.serial_rules.specs.Reply.{kindIn}
-use Rattle.kind.specs.Kinds.{kindFor}
+use mathlib.Core.Path.{_≡_, refl}
 use Rattle.kind.specs.declared.CallKind.{CallKind}
 use Rattle.kind.specs.declared.CallKind.the-variants.{Osrdch, Oscli, OsbyteLow, OsbyteHigh, Osword, Osword0, Osargs, Osbget, Osbput, OsfindClose, OsfindOpen, Osfile, Osgbpb}
-use Rattle.flat_kind.specs.Kinds.{kindAt, kindNumber, kindOut, Flat-kind-done}
+use Rattle.flat_kind.specs.Kinds.{kindAt, kindNumber, kindOut}
 
 -- what holds of the numbers below m, one by one, holds of every one of them
 unfoldable pub Each : (ℕ → Type 0) → ℕ → Type 0
@@ -60,23 +57,3 @@ pub kind-same : (out n : ℕ) → n < 13 → KindSame out n
 unfolding Each
 kind-same out = each (KindSame out) 13
     ((refl, refl), ((refl, refl), ((refl, refl), ((refl, refl), ((refl, refl), ((refl, refl), ((refl, refl), ((refl, refl), ((refl, refl), ((refl, refl), ((refl, refl), ((refl, refl), ((refl, refl), tt)))))))))))))
-
--- What `kind_of` promises: only OSWORD has an out length.
-kind-lacks : (k : CallKind) → (kindNumber k ≡ 4 → ⊥) → kindOut 0 k ≡ 0
-kind-lacks Osrdch h = refl
-kind-lacks Oscli h = refl
-kind-lacks OsbyteLow h = refl
-kind-lacks OsbyteHigh h = refl
-kind-lacks (Osword n) h = absurd (h refl)
-kind-lacks Osword0 h = refl
-kind-lacks Osargs h = refl
-kind-lacks Osbget h = refl
-kind-lacks Osbput h = refl
-kind-lacks OsfindClose h = refl
-kind-lacks OsfindOpen h = refl
-kind-lacks Osfile h = refl
-kind-lacks Osgbpb h = refl
-
-pub kind-flat : {code : ℕ} {body : List ℕ} (k : CallKind) {n out : ℕ} → kindFor k ≡ kindIn code body → n ≡ kindNumber k → out ≡ kindOut 0 k
-    → Flat-kind-done code body (record { call = n; «out_length» = out })
-kind-flat k e n o = rw (n, o) (record { kind = ap kindFor (kind-back 0 k) ∙ e; known = kind-tag k; lacks = kind-lacks k })

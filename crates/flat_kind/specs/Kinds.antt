@@ -1,11 +1,13 @@
 -- The kinds of call by number, and what `kind_of` promises.
-use Prim.Native.Nat.{ℕ, _≤_}
+use Prim.Native.Nat.{ℕ}
 use mathlib.Core.Path.{_≡_}
 use mathlib.Core.Bool.{cond}
 use mathlib.Core.List.{List}
 use lib.Dec.{eqb}
 use Rattle.serial_rules.specs.Reply.{kindIn}
-use Rattle.kind.specs.Kinds.{kindFor}
+use Rattle.kind.specs.Kinds.{foundFor}
+use Rattle.kind.specs.declared.Found.{Found}
+use Rattle.kind.specs.declared.Found.the-variants.{Known, NoCall}
 use Rattle.kind.specs.declared.CallKind.{CallKind}
 use Rattle.kind.specs.declared.CallKind.the-variants.{Osrdch, Oscli, OsbyteLow, OsbyteHigh, Osword, Osword0, Osargs, Osbget, Osbput, OsfindClose, OsfindOpen, Osfile, Osgbpb}
 use Rattle.flat_kind.specs.declared.FlatKind.{FlatKind}
@@ -61,9 +63,17 @@ kindOut given OsfindOpen = given
 kindOut given Osfile = given
 kindOut given Osgbpb = given
 
--- What `kind_of` promises of the code and the body of a request, and the result.
+-- no call has a number of its own
+abbrev pub noCallNumber : ℕ
+noCallNumber = 255
+
+-- the flat form of a kind found: only OSWORD has an out length
+abbrev pub flatFound : Found → FlatKind
+flatFound (Known kind) = record { call = kindNumber kind; «out_length» = kindOut 0 kind }
+flatFound NoCall = record { call = noCallNumber; «out_length» = 0 }
+
+-- What `kind_of` promises of the code and the body of a request, and the result: it is the flat form of what was found.
 pub record Flat-kind-done (code : ℕ) (body : List ℕ) (r : FlatKind) : Type 0 where
-  pub kind : kindFor (kindAt (r .call) (r .«out_length»)) ≡ kindIn code body
-  pub known : r .call ≤ lastCall
-  -- only OSWORD has an out length
-  pub lacks : (r .call ≡ 4 → ⊥) → r .«out_length» ≡ 0
+  pub found : Found
+  pub done : foundFor found ≡ kindIn code body
+  pub is : r ≡ flatFound found

@@ -4,8 +4,9 @@ ghost use Prim.Native.Nat.{_≤_};
 ghost use mathlib.Core.Path.{_≡_};
 ghost use Rattle.flat_kind.specs.Kinds.{kindAt, kindNumber, kindOut, Flat-kind-done};
 use kind::CallKind;
+use kind::Found;
 
-// The kind of a call: its number, and OSWORD's out length, else 0.
+// The kind of a call: its number, and OSWORD's out length, else 0; or no call.
 #[repr(C)]
 pub struct FlatKind {
     pub call: u8,
@@ -15,16 +16,23 @@ pub struct FlatKind {
 impl FlatKind {
     // The highest number of a call.
     pub const LAST: u8 = 12;
+    // The number for no call.
+    pub const NONE: u8 = 255;
 }
 
 // The kind of a finished request: see `kind::CallKind::of_request`.
 pub fn kind_of(code: u8, body: &[u8]) -> FlatKind
     ensures { λ r. ⌜ Flat-kind-done code (now (body .entry)) r ⌝ }
 {
-    let kind = CallKind::of_request(code, body);
-    FlatKind {
-        call: kind_number(kind),
-        out_length: kind_out(0, kind),
+    match CallKind::of_request(code, body) {
+        Found::Known(kind) => FlatKind {
+            call: kind_number(kind),
+            out_length: kind_out(0, kind),
+        },
+        Found::NoCall => FlatKind {
+            call: FlatKind::NONE,
+            out_length: 0,
+        },
     }
 }
 

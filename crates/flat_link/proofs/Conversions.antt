@@ -3,7 +3,6 @@ use Prim.Native.Nat.{ℕ, zero, suc, _+_, _-_, _≤_}
 use native.Mathlib.Omega.{arith}
 use mathlib.Core.Path.{_≡_, refl, ap}
 use mathlib.Core.Bool.{Bool, true, false, _&&_}
-use mathlib.Core.List.{List}
 use borrow.Author.Tests.{leb-true, le-leb}
 use lib.Dec.{leb}
 use Rattle.serial_rules.proofs.Trip.{and-both}
@@ -13,13 +12,12 @@ use Rattle.link.specs.declared.Action.the-variants.{Error, Event, Address}
 use Rattle.link.specs.declared.Doing.{Doing}
 use Rattle.link.specs.declared.Doing.the-variants.{Quiet, Open}
 use Rattle.link.specs.declared.Link.{Link}
-use Rattle.link.specs.View.{viewOf}
 use Rattle.flat.specs.Flat.{flagNumber}
 use Rattle.flat.proofs.Flags.{not-zero}
 use Rattle.flat_link.specs.declared.FlatLink.{FlatLink}
 use Rattle.flat_kind.specs.Kinds.{kindNumber}
 use Rattle.flat_kind.proofs.Numbers.{Each, each, kind-back, kind-tag, kind-same}
-use Rattle.flat_link.specs.Links.{waitAt, doingAt, seenAt, stoppedAt, linkOf, tagsOk, flatView, waitNumber, waitOut, doingNumber, flagsNumber, flatOf}
+use Rattle.flat_link.specs.Links.{waitAt, doingAt, seenAt, stoppedAt, linkOf, tagsOk, waitNumber, waitOut, doingNumber, flagsNumber, flatOf}
 
 before-suc : (n : ℕ) → suc n - 1 ≡ n
 before-suc n = omega arith
@@ -47,7 +45,7 @@ stopped-back true false = refl
 stopped-back false true = refl
 stopped-back false false = refl
 
-link-back : (f : FlatLink) (l : Link) → linkOf (flatOf f l) ≡ l
+pub link-back : (f : FlatLink) (l : Link) → linkOf (flatOf f l) ≡ l
 link-back f l =
     rw (wait-back (f .«out_length») (l .wait), seen-back (l .escape) (l .stopped), doing-back (l .doing), stopped-back (l .escape) (l .stopped))
 
@@ -60,7 +58,7 @@ pub two-more : (seen : Bool) → flagsNumber seen true ≡ flagsNumber seen fals
 two-more true = refl
 two-more false = refl
 
--- the numbers of a link are in range, so that its flat record stands for what it stands for
+-- the numbers of a link are in range, so that its flat record is one of that link again, and steps of flat records follow each other as those of the link
 wait-tag : (w : Wait) → leb (waitNumber w) 13 ≡ true
 wait-tag Idle = refl
 wait-tag (Waiting k) = le-leb (suc (kindNumber k)) 13 (omega (arith, kind-tag k))
@@ -77,9 +75,9 @@ flags-tag true false = refl
 flags-tag false true = refl
 flags-tag false false = refl
 
-pub flat-view : (f : FlatLink) (l : Link) (reply own : List ℕ) → flatView (flatOf f l) reply own ≡ viewOf l reply own
+pub tags-back : (f : FlatLink) (l : Link) → tagsOk (flatOf f l) ≡ true
 unfolding tagsOk
-flat-view f l reply own = rw (wait-tag (l .wait), doing-tag (l .doing), flags-tag (l .escape) (l .stopped)) (ap (λ (q : Link). viewOf q reply own) (link-back f l))
+tags-back f l = rw (wait-tag (l .wait), doing-tag (l .doing), flags-tag (l .escape) (l .stopped))
 
 -- from a flat record and back
 wait-same : (out n : ℕ) → leb n 13 ≡ true → (waitNumber (waitAt n out) ≡ n) × (waitOut out (waitAt n out) ≡ out)

@@ -16,6 +16,7 @@ use Rattle.shapes.specs.declared.Shape.{Shape as Found}
 use Rattle.shapes.specs.Shapes.{shapeFor}
 use Rattle.kind.specs.Kinds.{kindFor}
 use Rattle.kind.specs.declared.CallKind.{CallKind}
+use Rattle.kind.specs.Kinds.{replyLent}
 use Rattle.link.proofs.Steps.{at-data, data-outside, reply-more, reply-ended}
 use Rattle.link_loop.proofs.Plains.{mid, mid-usable}
 use Rattle.flat_kind.specs.Kinds.{kindAt}
@@ -42,14 +43,14 @@ not-done e = let z : _≡_ {A = ℕ} 0 1 = cc in omega arith
 
 -- the turn of the shape that the code finds, by whether the record is within its limits
 module _ (f : FlatLink) (x : ℕ) {k : CallKind} (s : Found) {m : ℕ} (p : k ≡ kindAt (f .wait - 1) (f .«out_length»)) (q : shapeFor s ≡ shapeOf (kindFor k))
-    (l : (m ≡ longest (shapeFor s)) × (m ≤ 257)) where
+    (l : (m ≡ longest (shapeFor s)) × (m ≤ replyLent)) where
   is-shape : shapeFor s ≡ shapeIn f
   is-shape = q ∙ ap (λ (c : CallKind). shapeOf (kindFor c)) p
 
-  pub turned : {t : Turn} → f .got < m → t ≡ shapeTurn (shapeFor s) (f .got) x → (t ≡ turnIn f x) × ((t ≡ refused 7 → ⊥) → f .got < 257)
+  pub turned : {t : Turn} → f .got < m → t ≡ shapeTurn (shapeFor s) (f .got) x → (t ≡ turnIn f x) × ((t ≡ refused 7 → ⊥) → f .got < replyLent)
   turned below e = (e ∙ rw (← is-shape, ← l .0, lt-ltb (f .got) m below), λ _. omega (arith, l .1, below))
 
-  pub beyond : m ≤ f .got → (refused 7 ≡ turnIn f x) × ((refused 7 ≡ refused 7 → ⊥) → f .got < 257)
+  pub beyond : m ≤ f .got → (refused 7 ≡ turnIn f x) × ((refused 7 ≡ refused 7 → ⊥) → f .got < replyLent)
   beyond above = (rw (← is-shape, ← l .0, le-ltb (f .got) m above), λ no. absurd (no refl))
 
 -- a turn that goes on, or that ends the reply, is no refusal

@@ -1,3 +1,4 @@
 pub mod Conversions
 pub mod Links
 pub mod Field
+pub mod Streams

@@ -1,3 +1,4 @@
 pub mod Links
 pub mod Runs
 pub mod Field
+pub mod Streams

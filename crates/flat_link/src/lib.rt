@@ -2,19 +2,22 @@
 ghost use Prim.Native.Nat.{_<_};
 ghost use mathlib.Core.Path.{_≡_};
 ghost use mathlib.Core.Bool.{true};
+ghost use Rattle.kind.specs.Kinds.{replyLent};
 ghost use Rattle.link.specs.View.{begunOf};
-ghost use Rattle.flat_link.specs.Links.{waitAt, doingAt, linkOf, tagsOk, freshLink, waitNumber, waitOut, doingNumber, flagsNumber, flatOf, toldWith, flatTold, flatBegun, Flat-begin-done, Flat-step-done};
+ghost use Rattle.flat_link.specs.Links.{waitAt, doingAt, linkOf, tagsOk, freshLink, waitNumber, waitOut, doingNumber, flagsNumber, flatOf, toldWith, flatTold, flatBegun, flatStarted, Flat-begin-done, Flat-step-done};
 ghost use Rattle.flat_link.specs.Runs.{flatRan, flatUnknown, ranWith, Flat-run-done};
 ghost use Rattle.flat_link.specs.Field.{Reply-byte, turnIn, placedNext, placedIdle};
 ghost use Rattle.serial_rules.specs.Body.{refused};
 ghost use Rattle.turns.specs.Turns.{turnOf};
 use escape::Piece;
 use flat_kind::FlatKind;
+use kind::CallKind;
 use link::Action;
 use link::Answer;
 use link::Begun;
 use link::Doing;
 use link::Link;
+use link::Started;
 use link::Wait;
 use link_loop::Ran;
 use turns::Turn;
@@ -78,23 +81,27 @@ pub fn fresh() -> FlatLink
     }
 }
 
-// Begins a call: see `link::Link::begin`. A call that does not exist is refused as on a stopped link.
+// Begins a call: see `link::Link::begin`. A number above the last call's is a call that is not carried: see `link::Link::begin_none`.
 pub fn begin(link: FlatLink, call: u8, out_length: u8) -> FlatBegun
     ensures { λ r. ⌜ Flat-begin-done link call «out_length» r ⌝ }
 {
     if has_tags(link) {
+        let at = unflattened(link);
         if call <= FlatKind::LAST {
-            let started = unflattened(link).begin(flat_kind::kind_at(call, out_length));
-            let answer = started.answer;
-            let next = started.link;
-            return flat_begun(flattened(link, next), answer);
+            return flat_started(link, at.begin(flat_kind::kind_at(call, out_length)));
         }
+        return flat_started(link, at.begin_none());
     }
     flat_begun(link, Begun::Denied(7))
 }
 
 // One raw byte: see `link::Link::step`.
-pub fn step(link: FlatLink, raw: u8, reply: &mut [u8; 257], own: &mut [u8; 257]) -> FlatTold
+pub fn step(
+    link: FlatLink,
+    raw: u8,
+    reply: &mut [u8; CallKind::REPLY],
+    own: &mut [u8; Link::OWN],
+) -> FlatTold
     ensures { λ r. ⌜ Flat-step-done link (now (reply .entry)) (now (own .entry)) raw r (now (reply .exit)) (now (own .exit)) ⌝ }
 {
     if is_reply_byte(link, raw) {
@@ -104,7 +111,12 @@ pub fn step(link: FlatLink, raw: u8, reply: &mut [u8; 257], own: &mut [u8; 257])
 }
 
 // A byte of the reply is stored on the record as it is, unless it is refused.
-fn step_reply(link: FlatLink, raw: u8, reply: &mut [u8; 257], own: &mut [u8; 257]) -> FlatTold
+fn step_reply(
+    link: FlatLink,
+    raw: u8,
+    reply: &mut [u8; CallKind::REPLY],
+    own: &mut [u8; Link::OWN],
+) -> FlatTold
     requires { ⌜ Reply-byte link raw ⌝ }
     ensures { λ r. ⌜ Flat-step-done link (now (reply .entry)) (now (own .entry)) raw r (now (reply .exit)) (now (own .exit)) ⌝ }
 {
@@ -127,7 +139,12 @@ fn step_reply(link: FlatLink, raw: u8, reply: &mut [u8; 257], own: &mut [u8; 257
 }
 
 // Any byte, by way of the link's enums and back. It has two callers, so that the compiler leaves it apart and theirs short.
-fn step_unflattened(link: FlatLink, raw: u8, reply: &mut [u8; 257], own: &mut [u8; 257]) -> FlatTold
+fn step_unflattened(
+    link: FlatLink,
+    raw: u8,
+    reply: &mut [u8; CallKind::REPLY],
+    own: &mut [u8; Link::OWN],
+) -> FlatTold
     ensures { λ r. ⌜ Flat-step-done link (now (reply .entry)) (now (own .entry)) raw r (now (reply .exit)) (now (own .exit)) ⌝ }
 {
     if has_tags(link) {
@@ -164,7 +181,7 @@ fn is_reply_byte(link: FlatLink, raw: u8) -> bool
 // What the byte does to the reply; refused where the record is over its limits.
 fn reply_turn(link: FlatLink, raw: u8) -> Turn
     requires { ⌜ Reply-byte link raw ⌝ }
-    ensures { λ r. ⌜ (turnOf r ≡ turnIn link raw) × ((turnOf r ≡ refused 7 → ⊥) → link .got < 257) ⌝ }
+    ensures { λ r. ⌜ (turnOf r ≡ turnIn link raw) × ((turnOf r ≡ refused 7 → ⊥) → link .got < replyLent) ⌝ }
 {
     let at = link.got as usize;
     let shape = flat_kind::kind_at(link.wait - 1, link.out_length).shape();
@@ -176,7 +193,7 @@ fn reply_turn(link: FlatLink, raw: u8) -> Turn
 
 // The record after one more byte of the reply, and after its last.
 fn next_place(link: FlatLink) -> FlatLink
-    requires { ⌜ link .got < 257 ⌝ }
+    requires { ⌜ link .got < replyLent ⌝ }
     ensures { λ r. ⌜ r ≡ placedNext link ⌝ }
 {
     FlatLink {
@@ -189,14 +206,14 @@ fn next_place(link: FlatLink) -> FlatLink
     }
 }
 
-fn idle(link: FlatLink) -> FlatLink
-    ensures { λ r. ⌜ r ≡ placedIdle link ⌝ }
+fn idle(given: FlatLink) -> FlatLink
+    ensures { λ r. ⌜ r ≡ placedIdle given ⌝ }
 {
     FlatLink {
         got: 0,
         held: 0,
         wait: 0,
-        out_length: link.out_length,
+        out_length: given.out_length,
         action: 0,
         flags: 0,
     }
@@ -206,8 +223,8 @@ fn idle(link: FlatLink) -> FlatLink
 pub fn run(
     link: FlatLink,
     raw: &[u8],
-    reply: &mut [u8; 257],
-    own: &mut [u8; 257],
+    reply: &mut [u8; CallKind::REPLY],
+    own: &mut [u8; Link::OWN],
     room: &mut [u8],
 ) -> FlatRan
     ensures { λ r. ⌜ Flat-run-done link (now (reply .entry)) (now (own .entry)) (now (raw .entry)) (now (room .entry)) r (now (reply .exit)) (now (own .exit)) (now (room .exit)) ⌝ }
@@ -305,7 +322,15 @@ fn told(link: FlatLink, kind: u32, first: u8, length: usize) -> FlatTold
     }
 }
 
-// The flat result of a begun call.
+// The flat result of a begun call: beside the record given, and with the flat record itself.
+fn flat_started(given: FlatLink, started: Started) -> FlatBegun
+    ensures { λ r. ⌜ r ≡ flatStarted given started ⌝ }
+{
+    let answer = started.answer;
+    let next = started.link;
+    flat_begun(flattened(given, next), answer)
+}
+
 fn flat_begun(link: FlatLink, begun: Begun) -> FlatBegun
     ensures { λ r. ⌜ r ≡ flatBegun link (begunOf begun) ⌝ }
 {

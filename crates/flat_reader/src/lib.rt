@@ -1,8 +1,8 @@
 // The request reader as a flat record: numbers for the enums and the bools, with total conversions, so that it can cross to C.
 ghost use mathlib.Core.Path.{_≡_};
-ghost use Rattle.flat_reader.specs.Readers.{carrierAt, phaseAt, carrierNumber, phaseNumber, readerOf, flatOf, flatRead, flatPlain, tagsOk};
+ghost use Rattle.flat_reader.specs.Readers.{phaseAt, phaseNumber, readerOf, flatOf, flatRead, flatPlain, tagsOk};
+use carrier::Carrier;
 use request_reader::Answer;
-use request_reader::Carrier;
 use request_reader::Phase;
 use request_reader::Reader;
 
@@ -78,7 +78,7 @@ fn flat(reader: FlatReader, kind: u8, value: u8) -> FlatRead
 pub fn has_tags(reader: FlatReader) -> bool
     ensures { λ r. ⌜ r ≡ tagsOk reader ⌝ }
 {
-    if reader.carrier <= 1 {
+    if reader.carrier <= Carrier::LAST {
         return reader.phase <= 2;
     }
     false
@@ -89,22 +89,12 @@ pub fn unflattened(reader: FlatReader) -> Reader
     ensures { λ r. ⌜ r ≡ readerOf reader ⌝ }
 {
     Reader {
-        carrier: carrier_at(reader.carrier),
+        carrier: Carrier::at(reader.carrier),
         phase: phase_at(reader.phase),
         escape: reader.escape != 0,
         style: reader.style,
         code: reader.code,
         count: reader.count,
-    }
-}
-
-fn carrier_at(n: u8) -> Carrier
-    ensures { λ r. ⌜ r ≡ carrierAt n ⌝ }
-{
-    if n == 0 {
-        Carrier::Serial
-    } else {
-        Carrier::Parallel
     }
 }
 
@@ -128,20 +118,11 @@ fn flattened(given: u8, reader: Reader) -> FlatReader
     let phase = reader.phase;
     FlatReader {
         count: reader.count,
-        carrier: carrier_number(carrier),
+        carrier: carrier.number(),
         phase: phase_number(phase),
         escape: flat::flag_number(given, reader.escape),
         style: reader.style,
         code: reader.code,
-    }
-}
-
-fn carrier_number(carrier: Carrier) -> u8
-    ensures { λ r. ⌜ r ≡ carrierNumber carrier ⌝ }
-{
-    match carrier {
-        Carrier::Serial => 0,
-        Carrier::Parallel => 1,
     }
 }
 

@@ -1,42 +1,57 @@
--- What `write_reply` and `read_reply` promise of flat records, from what the writer and the reading do.
+-- What `write_reply`, `reply_step` and `read_reply` promise of flat records, from what the functions below them do.
 use Prim.Native.Nat.{ℕ, _≤_, _<_}
 use native.Mathlib.Omega.{arith}
-use mathlib.Core.Path.{_≡_, refl, sym, ap, _∙_}
-use mathlib.Core.Bool.{true, false, cond}
-use mathlib.Core.List.{List, _++_}
-use borrow.Author.Tests.{lt-ltb, le-ltb}
-use lib.Dec.{eqb}
-use lib.ListN.{length, drop}
+use mathlib.Core.Path.{_≡_, refl, sym, _∙_}
+use mathlib.Core.Bool.{true, false, cond, true≢false}
+use mathlib.Core.List.{List}
+use lib.Dec.{ltb}
+use lib.ListN.{length}
 use Rattle.serial_rules.specs.Call.{stringLimit}
+use Rattle.carrier.specs.declared.Carrier.{Carrier}
+use Rattle.carrier.specs.Carriers.{carrierOf, carrierAt}
 use Rattle.fields.specs.declared.Written.{Written}
-use Rattle.fields.specs.declared.Written.the-variants.{TooLong, BadField}
 use Rattle.kind.specs.declared.CallKind.{CallKind}
 use Rattle.reply.specs.declared.Reply.{Reply}
 use Rattle.reply.specs.declared.Given.{Given}
 use Rattle.reply.specs.Promise.{Read-done}
-use Rattle.reply_writer.specs.Promise.{Reply-done}
+use Rattle.reply_reader.specs.declared.Taken.{Taken}
+use Rattle.reply_reader.specs.Promise.{Take-done}
+use Rattle.reply_writer.specs.Promise.{Reply-written}
 use Rattle.flat_reply.specs.declared.FlatGiven.{FlatGiven}
+use Rattle.flat_reply.specs.declared.FlatTaken.{FlatTaken}
 use Rattle.flat.specs.declared.FlatWritten.{FlatWritten}
-use Rattle.flat.specs.Flat.{flatWritten}
+use Rattle.flat.specs.Flat.{flatWritten, unwrittenWith}
 use Rattle.flat_kind.specs.Kinds.{lastCall}
-use Rattle.flat_reply.specs.Replies.{replyKnown, replyRaw, Flat-reply-done, flatGiven, noReply, Flat-read-done}
+use Rattle.flat_reply.specs.Replies.{numbersKnown, Flat-reply-done, flatGiven, noReply, Flat-read-done, takenWith, flatTaken, Flat-take-done}
 
-module _ {call n : ℕ} {kind : CallKind} {reply : Reply} {b t out : List ℕ} {o : FlatWritten} where
-  pub done : {k : CallKind} {given : Reply} {w : Written} {left : List ℕ} → replyKnown call n ≡ true → k ≡ kind → given ≡ reply
-      → Reply-done k given b t out w left → o ≡ flatWritten w → Flat-reply-done call kind n reply b t out o left
-  done {k} {given} {w} {left} known same is d e =
-      let s : Reply-done kind reply b t out w left = rw (same, is) at d in
-      rw e (record {
-        answer = rw known (s .answer);
-        written = s .written ∙ ap (λ (m : ℕ). cond (eqb m 0) (length (replyRaw reply b t)) 0) (sym (s .answer));
-        bytes = s .bytes ∙ ap (λ (m : ℕ). cond (eqb m 0) (replyRaw reply b t ++ drop (length (replyRaw reply b t)) out) out) (sym (s .answer));
-      })
+module _ {carrier call n : ℕ} {kind : CallKind} {reply : Reply} {b t out : List ℕ} {o : FlatWritten} where
+  pub none : lastCall < call → o ≡ unwrittenWith 4 → Flat-reply-done carrier call kind n reply b t out o out
+  none above e = record { known = λ k _. absurd (omega (arith, k)); no-call = λ k. (e, refl); no-field = λ k _. absurd (omega (arith, k)) }
 
-  pub too-long : replyKnown call n ≡ false → stringLimit < length t → o ≡ flatWritten TooLong → Flat-reply-done call kind n reply b t out o out
-  too-long known h e = rw e (record { answer = simp (known, lt-ltb _ _ h); written = refl; bytes = refl })
+  pub done : {on : Carrier} {k : CallKind} {given : Reply} {w : Written} {left : List ℕ} → call ≤ lastCall → numbersKnown carrier n ≡ true → on ≡ carrierAt carrier → k ≡ kind → given ≡ reply
+      → Reply-written (carrierOf on) k given b t out w left → o ≡ flatWritten w → Flat-reply-done carrier call kind n reply b t out o left
+  done {w = w} low ok at same is d e =
+      record {
+        known = λ _ _. record { written = w; done = rw (at, same, is) at d; is = e };
+        no-call = λ above. absurd (omega (arith, above));
+        no-field = λ _ off. absurd (true≢false (sym ok ∙ off));
+      }
 
-  pub bad-field : replyKnown call n ≡ false → length t ≤ stringLimit → o ≡ flatWritten BadField → Flat-reply-done call kind n reply b t out o out
-  bad-field known h e = rw e (record { answer = simp (known, le-ltb _ _ h); written = refl; bytes = refl })
+  pub unknown : {m : ℕ} → call ≤ lastCall → numbersKnown carrier n ≡ false → m ≡ cond (ltb stringLimit (length t)) 6 9 → o ≡ unwrittenWith m
+      → Flat-reply-done carrier call kind n reply b t out o out
+  unknown low off m e =
+      record {
+        known = λ _ ok. absurd (true≢false (sym ok ∙ off));
+        no-call = λ above. absurd (omega (arith, above));
+        no-field = λ _ _. (rw m at e, refl);
+      }
+
+module _ {call n b : ℕ} {kind : CallKind} {lent : List ℕ} {o : FlatTaken} where
+  pub take-none : lastCall < call → o ≡ takenWith n 2 4 → Flat-take-done call kind n b lent o lent
+  take-none above e = record { known = λ k. absurd (omega (arith, k)); no-call = λ _. (e, refl) }
+
+  pub take-known : {k : CallKind} {r : Taken} {left : List ℕ} → call ≤ lastCall → k ≡ kind → Take-done k n b lent r left → o ≡ flatTaken r → Flat-take-done call kind n b lent o left
+  take-known {r = r} low same d e = record { known = λ _. record { taken = r; done = rw same at d; is = e }; no-call = λ above. absurd (omega (arith, above)) }
 
 module _ {call : ℕ} {kind : CallKind} {s : List ℕ} where
   pub read-known : {k : CallKind} {g : Given} {r : FlatGiven} → call ≤ lastCall → k ≡ kind → Read-done k s g → r ≡ flatGiven g → Flat-read-done call kind s r

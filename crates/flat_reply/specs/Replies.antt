@@ -1,21 +1,26 @@
 -- Replies by number, for callers in C: what writing one and reading its fields promise.
 use Prim.Native.Nat.{ℕ, _≤_, _<_}
 use mathlib.Core.Path.{_≡_}
-use mathlib.Core.Bool.{Bool, false, cond, not, _&&_}
-use mathlib.Core.List.{List, _++_}
+use mathlib.Core.Bool.{Bool, true, false, cond, not, _&&_}
+use mathlib.Core.List.{List}
 use lib.Dec.{eqb, leb, ltb}
-use lib.ListN.{length, drop}
+use lib.ListN.{length}
 use Rattle.serial_rules.specs.Call.{stringLimit}
-use Rattle.serial_rules.specs.Escape.{escaped}
-use Rattle.serial_rules.specs.Reply as rules
-use Rattle.kind.specs.Kinds.{kindFor}
+use Rattle.carrier.specs.Carriers.{carrierOf, carrierAt, lastCarrier}
+use Rattle.fields.specs.declared.Written.{Written}
+use Rattle.turns.specs.declared.Turn.{Turn}
+use Rattle.turns.specs.declared.Turn.the-variants.{More, Done, Refused}
 use Rattle.kind.specs.declared.CallKind.{CallKind}
 use Rattle.reply.specs.declared.Reply.{Reply}
 use Rattle.reply.specs.declared.Reply.the-variants.{CarryA, Ack, Byte, CarryYX, Block, EscapedLine, ReadLine, ABlock, Plain, BlockCarryA}
 use Rattle.reply.specs.declared.Given.{Given}
-use Rattle.reply.specs.Promise.{replyFor, Read-done}
+use Rattle.reply.specs.Promise.{Read-done}
+use Rattle.reply_reader.specs.declared.Taken.{Taken}
+use Rattle.reply_reader.specs.Promise.{Take-done}
+use Rattle.reply_writer.specs.Promise.{Reply-written}
 use Rattle.flat.specs.declared.FlatWritten.{FlatWritten}
-use Rattle.flat.specs.Flat.{flagNumber}
+use Rattle.flat.specs.Flat.{flagNumber, flatWritten, unwrittenWith}
+use Rattle.flat_reply.specs.declared.FlatTaken.{FlatTaken}
 use Rattle.flat_reply.specs.declared.FlatGiven.{FlatGiven}
 use Rattle.flat_kind.specs.Kinds.{lastCall}
 
@@ -33,28 +38,28 @@ replyAt n carry x y a =
     (cond (eqb n 8) Plain
     (BlockCarryA (not (eqb carry 0)) a)))))))))
 
-unfoldable pub replyKnown : ℕ → ℕ → Bool
-replyKnown call reply = leb call lastCall && leb reply 9
+-- the numbers of the carrier and of the reply are in range
+unfoldable pub numbersKnown : ℕ → ℕ → Bool
+numbersKnown carrier reply = leb carrier lastCarrier && leb reply 9
 
--- the number of the answer: a call or a reply out of range is a field that breaks its rule
-abbrev pub flatNumber : ℕ → CallKind → ℕ → Reply → List ℕ → List ℕ → ℕ → ℕ
-flatNumber call kind n reply b t room =
-    cond (replyKnown call n) (rules.replyNumber (kindFor kind) (replyFor reply) b t room) (cond (ltb stringLimit (length t)) 6 9)
+-- The result is the flat form of what the reply writer answers on the carrier of that number.
+pub record Flat-reply-written (carrier : ℕ) (kind : CallKind) (reply : Reply) (b t out : List ℕ) (r : FlatWritten) (left : List ℕ) : Type 0 where
+  pub written : Written
+  pub done : Reply-written (carrierOf (carrierAt carrier)) kind reply b t out written left
+  pub is : r ≡ flatWritten written
 
-abbrev pub replyRaw : Reply → List ℕ → List ℕ → List ℕ
-replyRaw reply b t = escaped (rules.replyBytes (replyFor reply) b t)
-
--- What `write_reply` promises of the number of the call and its kind, the number of the reply and the reply, the lent bytes before and after,
--- and the result.
-pub record Flat-reply-done (call : ℕ) (kind : CallKind) (n : ℕ) (reply : Reply) (b t out : List ℕ) (r : FlatWritten) (left : List ℕ) : Type 0 where
-  pub answer : r .answer ≡ flatNumber call kind n reply b t (length out)
-  pub written : r .length ≡ cond (eqb (r .answer) 0) (length (replyRaw reply b t)) 0
-  pub bytes : left ≡ cond (eqb (r .answer) 0) (replyRaw reply b t ++ drop (length (replyRaw reply b t)) out) out
+-- What `write_reply` promises of the numbers of the carrier, the call and the reply, of its kind and that reply, the lent bytes before and after,
+-- and the result. A number above the last call is first of all 4, "mark or request code not carried"; another carrier or reply is a field that
+-- breaks its rule, 9, behind 6.
+pub record Flat-reply-done (carrier call : ℕ) (kind : CallKind) (n : ℕ) (reply : Reply) (b t out : List ℕ) (r : FlatWritten) (left : List ℕ) : Type 0 where
+  pub known : call ≤ lastCall → numbersKnown carrier n ≡ true → Flat-reply-written carrier kind reply b t out r left
+  pub no-call : lastCall < call → (r ≡ unwrittenWith 4) × (left ≡ out)
+  pub no-field : call ≤ lastCall → numbersKnown carrier n ≡ false → (r ≡ unwrittenWith (cond (ltb stringLimit (length t)) 6 9)) × (left ≡ out)
 
 -- the flat record of a reply read: a number that the reply lacks is 0
 abbrev pub givenWith : Given → ℕ → Bool → ℕ → ℕ → ℕ → FlatGiven
 givenWith g n carry x y a =
-    record { «block_start» = g .«block_start»; «block_length» = g .«block_length»; «text_start» = g .«text_start»; «text_length» = g .«text_length»; reply = n; carry = flagNumber 0 carry; x = x; y = y; a = a }
+    record { «block_start» = g .block .start; «block_length» = g .block .length; «text_start» = g .text .start; «text_length» = g .text .length; reply = n; carry = flagNumber 0 carry; x = x; y = y; a = a }
 
 abbrev pub givenAs : Given → Reply → FlatGiven
 givenAs g (CarryA carry a) = givenWith g 0 carry 0 0 a
@@ -85,3 +90,26 @@ pub record Flat-given (kind : CallKind) (s : List ℕ) (r : FlatGiven) : Type 0 
 pub record Flat-read-done (call : ℕ) (kind : CallKind) (s : List ℕ) (r : FlatGiven) : Type 0 where
   pub known : call ≤ lastCall → Flat-given kind s r
   pub unknown : lastCall < call → r ≡ noReply
+
+-- the flat form of what a byte of a reply does: kind 0 more follow, 1 it is the last, 2 it is refused by number
+abbrev pub takenWith : ℕ → ℕ → ℕ → FlatTaken
+takenWith n kind answer = record { count = n; kind = kind; answer = answer }
+
+abbrev pub takenAs : ℕ → Turn → FlatTaken
+takenAs n More = takenWith n 0 0
+takenAs n Done = takenWith n 1 0
+takenAs n (Refused k) = takenWith n 2 k
+
+abbrev pub flatTaken : Taken → FlatTaken
+flatTaken r = takenAs (r .count) (r .turn)
+
+-- the byte was taken or refused by the reply's kind, and the result is flat
+pub record Flat-taken (kind : CallKind) (n b : ℕ) (lent : List ℕ) (r : FlatTaken) (left : List ℕ) : Type 0 where
+  pub taken : Taken
+  pub done : Take-done kind n b lent taken left
+  pub is : r ≡ flatTaken taken
+
+-- What `reply_step` promises of the number of the call and its kind, the count, the byte, the lent bytes before and after, and the result.
+pub record Flat-take-done (call : ℕ) (kind : CallKind) (n b : ℕ) (lent : List ℕ) (r : FlatTaken) (left : List ℕ) : Type 0 where
+  pub known : call ≤ lastCall → Flat-taken kind n b lent r left
+  pub no-call : lastCall < call → (r ≡ takenWith n 2 4) × (left ≡ lent)

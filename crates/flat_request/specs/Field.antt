@@ -9,13 +9,12 @@ use lib.ListN.{length, getD, take}
 use Rattle.serial_rules.specs.Call.{styleOk}
 use Rattle.turns.specs.Plain.{plain}
 use Rattle.middles.specs.Ahead.{aheadIn}
-use Rattle.request_reader.specs.View.{carrierOf}
+use Rattle.carrier.specs.Carriers.{carrierOf, carrierAt, lastCarrier}
 use Rattle.flat_reader.specs.declared.FlatReader.{FlatReader}
-use Rattle.flat_reader.specs.Readers.{carrierAt}
 
 -- the carrier's number is in range, and the style one of its own
 abbrev pub styled : ℕ → ℕ → Bool
-styled carrier style = leb carrier 1 && styleOk (carrierOf (carrierAt carrier)) style
+styled carrier style = leb carrier lastCarrier && styleOk (carrierOf (carrierAt carrier)) style
 
 -- inside a request, its style and its place within the limits, no escape seen, and a plain byte with more to come in its field
 pub record In-field (f : FlatReader) (lent : List ℕ) (raw : ℕ) : Type 0 where

@@ -1,2 +1,3 @@
 pub mod Feeds
 pub mod Field
+pub mod Streams

@@ -2,12 +2,15 @@
 ghost use Prim.Native.Nat.{_<_};
 ghost use mathlib.Core.Path.{_≡_};
 ghost use mathlib.Core.Bool.{true};
+ghost use Rattle.request_reader.specs.View.{bodyRoom};
 ghost use Rattle.flat_reader.specs.Readers.{freshReader, Flat-done};
 ghost use Rattle.flat_request.specs.Feeds.{Flat-feed-done};
 ghost use Rattle.flat_request.specs.Field.{styled, In-field, placedNext};
+use carrier::Carrier;
 use flat_reader::FlatRead;
 use flat_reader::FlatReader;
 use request_reader::Answer;
+use request_reader::Reader;
 
 // What a slice of raw bytes gives: its first answer that is not need-more, or need-more where it ends first, and the bytes used.
 #[repr(C)]
@@ -31,7 +34,7 @@ pub fn fresh(carrier: u8) -> FlatReader
 }
 
 // One raw byte: see `request_reader::Reader::step`.
-pub fn read(reader: FlatReader, raw: u8, body: &mut [u8; 273]) -> FlatRead
+pub fn read(reader: FlatReader, raw: u8, body: &mut [u8; Reader::BODY]) -> FlatRead
     ensures { λ r. ⌜ Flat-done reader (now (body .entry)) raw r (now (body .exit)) ⌝ }
 {
     if reader.phase == 1 {
@@ -41,7 +44,7 @@ pub fn read(reader: FlatReader, raw: u8, body: &mut [u8; 273]) -> FlatRead
 }
 
 // A plain byte in the middle of a field is stored on the record as it is.
-fn read_inside(reader: FlatReader, raw: u8, body: &mut [u8; 273]) -> FlatRead
+fn read_inside(reader: FlatReader, raw: u8, body: &mut [u8; Reader::BODY]) -> FlatRead
     ensures { λ r. ⌜ Flat-done reader (now (body .entry)) raw r (now (body .exit)) ⌝ }
 {
     if in_field(reader, raw, body) {
@@ -52,7 +55,7 @@ fn read_inside(reader: FlatReader, raw: u8, body: &mut [u8; 273]) -> FlatRead
 }
 
 // Any byte, by way of the reader's enums and back. It has two callers, so that the compiler leaves it apart and theirs short.
-fn read_unflattened(reader: FlatReader, raw: u8, body: &mut [u8; 273]) -> FlatRead
+fn read_unflattened(reader: FlatReader, raw: u8, body: &mut [u8; Reader::BODY]) -> FlatRead
     ensures { λ r. ⌜ Flat-done reader (now (body .entry)) raw r (now (body .exit)) ⌝ }
 {
     if flat_reader::has_tags(reader) {
@@ -92,17 +95,17 @@ fn has_style(carrier: u8, style: u8) -> bool
     ensures { λ r. ⌜ r ≡ styled carrier style ⌝ }
 {
     if carrier == 0 {
-        return style <= 3;
+        return Carrier::Serial.has_style(style);
     }
     if carrier == 1 {
-        return style == 0;
+        return Carrier::Parallel.has_style(style);
     }
     false
 }
 
 // The record after one more byte of the body.
 fn next_place(reader: FlatReader) -> FlatReader
-    requires { ⌜ reader .count < 273 ⌝ }
+    requires { ⌜ reader .count < bodyRoom ⌝ }
     ensures { λ r. ⌜ r ≡ placedNext reader ⌝ }
 {
     FlatReader {
@@ -116,7 +119,7 @@ fn next_place(reader: FlatReader) -> FlatReader
 }
 
 // Raw bytes up to the first answer that is not need-more: see `request_loop::feed`.
-pub fn feed(reader: FlatReader, raw: &[u8], body: &mut [u8; 273]) -> FlatFed
+pub fn feed(reader: FlatReader, raw: &[u8], body: &mut [u8; Reader::BODY]) -> FlatFed
     ensures { λ r. ⌜ Flat-feed-done reader (now (body .entry)) (now (raw .entry)) r (now (body .exit)) ⌝ }
 {
     if flat_reader::has_tags(reader) {

@@ -1,30 +1,40 @@
--- What `write_request` promises, from what the writer does.
+-- What `write_request` promises, case by case: where one holds, the conditions of the others do not.
 use Prim.Native.Nat.{ℕ, _≤_, _<_}
-use mathlib.Core.Path.{_≡_, refl, subst}
-use mathlib.Core.Bool.{true, false}
+use native.Mathlib.Omega.{arith}
+use mathlib.Core.Path.{_≡_, refl}
+use mathlib.Core.Bool.{cond}
 use mathlib.Core.List.{List}
-use borrow.Author.Tests.{lt-ltb, le-ltb}
+use lib.Dec.{ltb}
 use lib.ListN.{length}
 use Rattle.serial_rules.specs.Call.{stringLimit}
+use Rattle.carrier.specs.declared.Carrier.{Carrier}
+use Rattle.carrier.specs.Carriers.{carrierOf, carrierAt, lastCarrier}
 use Rattle.calls.specs.declared.Call.{Call}
 use Rattle.fields.specs.declared.Written.{Written}
-use Rattle.fields.specs.declared.Written.the-variants.{TooLong, BadField}
 use Rattle.request_writer.specs.Promise.{Request-done}
-use Rattle.request_reader.specs.View.{carrierOf}
 use Rattle.flat.specs.declared.FlatWritten.{FlatWritten}
-use Rattle.flat_reader.specs.Readers.{carrierAt}
-use Rattle.flat_request_writer.specs.Calls.{callKnown, Flat-request-done}
-use Rattle.flat.specs.Flat.{flatWritten}
+use Rattle.flat.specs.Flat.{flatWritten, unwrittenWith}
+use Rattle.flat_kind.specs.Kinds.{lastCall}
+use Rattle.flat_request_writer.specs.Calls.{Flat-request-done}
 
 module _ {carrier style n : ℕ} {call : Call} {b t out : List ℕ} {o : FlatWritten} where
-  pub done : {given : Call} {w : Written} {left : List ℕ} → callKnown carrier n ≡ true → given ≡ call
-      → Request-done (carrierOf (carrierAt carrier)) style given b t out w left → o ≡ flatWritten w → Flat-request-done carrier style n call b t out o left
-  done {given} {w} {left} known is d e =
-      let s = subst (λ (c : Call). Request-done (carrierOf (carrierAt carrier)) style c b t out w left) is d in
-      rw e (record { answer = rw known (s .answer); written = rw (s .answer) (s .written); bytes = rw (s .answer) (s .bytes) })
+  pub none : lastCall < n → o ≡ unwrittenWith 4 → Flat-request-done carrier style n call b t out o out
+  none above e = record { known = λ k on. absurd (omega (arith, k)); no-call = λ k. (e, refl); no-carrier = λ k off. absurd (omega (arith, k)) }
 
-  pub too-long : callKnown carrier n ≡ false → stringLimit < length t → o ≡ flatWritten TooLong → Flat-request-done carrier style n call b t out o out
-  too-long known h e = rw e (record { answer = simp (known, lt-ltb _ _ h); written = refl; bytes = refl })
+  pub done : {on : Carrier} {given : Call} {w : Written} {left : List ℕ} → n ≤ lastCall → carrier ≤ lastCarrier → on ≡ carrierAt carrier → given ≡ call
+      → Request-done (carrierOf on) style given b t out w left → o ≡ flatWritten w → Flat-request-done carrier style n call b t out o left
+  done {w = w} k on at is d e =
+      record {
+        known = λ _ _. record { written = w; done = rw (at, is) at d; is = e };
+        no-call = λ above. absurd (omega (arith, above));
+        no-carrier = λ _ off. absurd (omega (arith, off));
+      }
 
-  pub bad-field : callKnown carrier n ≡ false → length t ≤ stringLimit → o ≡ flatWritten BadField → Flat-request-done carrier style n call b t out o out
-  bad-field known h e = rw e (record { answer = simp (known, le-ltb _ _ h); written = refl; bytes = refl })
+  pub unknown : {m : ℕ} → n ≤ lastCall → lastCarrier < carrier → m ≡ cond (ltb stringLimit (length t)) 6 9 → o ≡ unwrittenWith m
+      → Flat-request-done carrier style n call b t out o out
+  unknown k off m e =
+      record {
+        known = λ _ on. absurd (omega (arith, on));
+        no-call = λ above. absurd (omega (arith, above));
+        no-carrier = λ _ _. (rw m at e, refl);
+      }

@@ -1,17 +1,19 @@
 -- Calls by number for callers in C.
-use Prim.Native.Nat.{ℕ}
+use Prim.Native.Nat.{ℕ, _≤_, _<_}
 use mathlib.Core.Path.{_≡_}
-use mathlib.Core.Bool.{Bool, cond, _&&_}
-use mathlib.Core.List.{List, _++_}
-use lib.Dec.{eqb, leb, ltb}
-use lib.ListN.{length, drop}
-use Rattle.serial_rules.specs.Call.{stringLimit, encodingOf, writerNumber}
+use mathlib.Core.Bool.{cond}
+use mathlib.Core.List.{List}
+use lib.Dec.{eqb, ltb}
+use lib.ListN.{length}
+use Rattle.serial_rules.specs.Call.{stringLimit}
+use Rattle.carrier.specs.Carriers.{carrierOf, carrierAt, lastCarrier}
 use Rattle.calls.specs.declared.Call.{Call}
 use Rattle.calls.specs.declared.Call.the-variants.{Osrdch, Oscli, OsbyteLow, OsbyteHigh, Osword, Osword0, Osargs, Osbget, Osbput, OsfindClose, OsfindOpen, Osfile, Osgbpb}
-use Rattle.calls.specs.Calls.{callOf}
-use Rattle.request_reader.specs.View.{carrierOf}
+use Rattle.fields.specs.declared.Written.{Written}
+use Rattle.request_writer.specs.Promise.{Request-done}
 use Rattle.flat.specs.declared.FlatWritten.{FlatWritten}
-use Rattle.flat_reader.specs.Readers.{carrierAt}
+use Rattle.flat.specs.Flat.{flatWritten, unwrittenWith}
+use Rattle.flat_kind.specs.Kinds.{lastCall}
 
 -- the calls in the order of the request table, from 0
 abbrev pub callAt : ℕ → ℕ → ℕ → ℕ → ℕ → Call
@@ -30,17 +32,15 @@ callAt n x y a outLength =
     (cond (eqb n 11) (Osfile a)
     (Osgbpb a))))))))))))
 
-unfoldable pub callKnown : ℕ → ℕ → Bool
-callKnown carrier call = leb carrier 1 && leb call 12
+-- The result is the flat form of what the request writer answers on the carrier of that number.
+pub record Flat-request-written (carrier style : ℕ) (call : Call) (b t out : List ℕ) (r : FlatWritten) (left : List ℕ) : Type 0 where
+  pub written : Written
+  pub done : Request-done (carrierOf (carrierAt carrier)) style call b t out written left
+  pub is : r ≡ flatWritten written
 
--- the number of the answer: a carrier or a call out of range is a field that breaks its rule
-abbrev pub flatNumber : ℕ → ℕ → ℕ → Call → List ℕ → List ℕ → ℕ → ℕ
-flatNumber carrier style n call b t room =
-    cond (callKnown carrier n) (writerNumber (carrierOf (carrierAt carrier)) style (callOf call) b t room) (cond (ltb stringLimit (length t)) 6 9)
-
--- What `write_request` promises, of the numbers of the carrier and of the call, and of that call.
+-- What `write_request` promises, of the numbers of the carrier and of the call, and of that call. A number above the last call is first of all
+-- 4, "mark or request code not carried"; one above the last carrier is a field that breaks its rule, 9, behind 6.
 pub record Flat-request-done (carrier style n : ℕ) (call : Call) (b t out : List ℕ) (r : FlatWritten) (left : List ℕ) : Type 0 where
-  pub answer : r .answer ≡ flatNumber carrier style n call b t (length out)
-  pub written : r .length ≡ cond (eqb (r .answer) 0) (length (encodingOf (carrierOf (carrierAt carrier)) style (callOf call) b t)) 0
-  pub bytes : left ≡ cond (eqb (r .answer) 0)
-      (encodingOf (carrierOf (carrierAt carrier)) style (callOf call) b t ++ drop (length (encodingOf (carrierOf (carrierAt carrier)) style (callOf call) b t)) out) out
+  pub known : n ≤ lastCall → carrier ≤ lastCarrier → Flat-request-written carrier style call b t out r left
+  pub no-call : lastCall < n → (r ≡ unwrittenWith 4) × (left ≡ out)
+  pub no-carrier : n ≤ lastCall → lastCarrier < carrier → (r ≡ unwrittenWith (cond (ltb stringLimit (length t)) 6 9)) × (left ≡ out)

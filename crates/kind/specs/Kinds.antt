@@ -1,5 +1,8 @@
 -- The program's kinds, as the rules speak of them.
+use Prim.Native.Nat.{ℕ}
 use Rattle.serial_rules.specs.Reply as rules
+use Rattle.kind.specs.declared.Found.{Found}
+use Rattle.kind.specs.declared.Found.the-variants.{Known, NoCall}
 use Rattle.kind.specs.declared.CallKind.{CallKind}
 use Rattle.kind.specs.declared.CallKind.the-variants.{Osrdch, Oscli, OsbyteLow, OsbyteHigh, Osword, Osword0, Osargs, Osbget, Osbput, OsfindClose, OsfindOpen, Osfile, Osgbpb}
 
@@ -17,3 +20,11 @@ kindFor OsfindClose = rules.osfindClose
 kindFor OsfindOpen = rules.osfindOpen
 kindFor Osfile = rules.osfile
 kindFor Osgbpb = rules.osgbpb
+
+abbrev pub foundFor : Found → rules.Found
+foundFor (Known kind) = rules.known (kindFor kind)
+foundFor NoCall = rules.noCall
+
+-- the bytes lent for a reply
+abbrev pub replyLent : ℕ
+replyLent = 257

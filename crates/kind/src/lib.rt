@@ -1,12 +1,9 @@
 // The kinds of call, and how the reply of each ends.
 ghost use mathlib.Core.Path.{_≡_};
-ghost use mathlib.Core.Bool.{cond};
-ghost use lib.Dec.{eqb};
-ghost use Rattle.serial_rules.specs.Fields.{at, last};
-ghost use Rattle.serial_rules.specs.Reply.{osfindClose, osfindOpen, shapeOf, formOf, blockIn, kindIn};
+ghost use Rattle.serial_rules.specs.Reply.{shapeOf, formOf, blockIn, kindFrom, kindIn};
 use shapes::Shape;
 ghost use Rattle.shapes.specs.Shapes.{shapeFor};
-ghost use Rattle.kind.specs.Kinds.{kindFor};
+ghost use Rattle.kind.specs.Kinds.{kindFor, foundFor};
 
 // A call as far as its reply goes; OSWORD carries the number of bytes that come back.
 pub enum CallKind {
@@ -25,24 +22,34 @@ pub enum CallKind {
     Osgbpb,
 }
 
+// The kind of a request, or that its code is that of no call.
+pub enum Found {
+    Known(CallKind),
+    NoCall,
+}
+
 impl CallKind {
+    // The bytes lent for a reply: the longest has so many.
+    pub const REPLY: usize = 257;
+
     // The kind of a finished request, by its code and body.
-    pub fn of_request(code: u8, body: &[u8]) -> CallKind
-        ensures { λ r. ⌜ kindFor r ≡ kindIn code (now (body .entry)) ⌝ }
+    pub fn of_request(code: u8, body: &[u8]) -> Found
+        ensures { λ r. ⌜ foundFor r ≡ kindIn code (now (body .entry)) ⌝ }
     {
         match code {
-            0x02 => CallKind::Oscli,
-            0x04 => CallKind::OsbyteLow,
-            0x06 => CallKind::OsbyteHigh,
-            0x08 => CallKind::Osword(last_byte(body)),
-            0x0A => CallKind::Osword0,
-            0x0C => CallKind::Osargs,
-            0x0E => CallKind::Osbget,
-            0x10 => CallKind::Osbput,
-            0x12 => find_kind(body),
-            0x14 => CallKind::Osfile,
-            0x16 => CallKind::Osgbpb,
-            _ => CallKind::Osrdch,
+            0x00 => Found::Known(CallKind::Osrdch),
+            0x02 => Found::Known(CallKind::Oscli),
+            0x04 => Found::Known(CallKind::OsbyteLow),
+            0x06 => Found::Known(CallKind::OsbyteHigh),
+            0x08 => Found::Known(CallKind::Osword(places::last_byte(body))),
+            0x0A => Found::Known(CallKind::Osword0),
+            0x0C => Found::Known(CallKind::Osargs),
+            0x0E => Found::Known(CallKind::Osbget),
+            0x10 => Found::Known(CallKind::Osbput),
+            0x12 => Found::Known(find_kind(body)),
+            0x14 => Found::Known(CallKind::Osfile),
+            0x16 => Found::Known(CallKind::Osgbpb),
+            _ => Found::NoCall,
         }
     }
 
@@ -110,25 +117,11 @@ impl CallKind {
     }
 }
 
-// The last byte, 0 where there is none.
-fn last_byte(body: &[u8]) -> u8
-    ensures { λ r. ⌜ r ≡ last (now (body .entry)) ⌝ }
-{
-    let n = body.len();
-    if n == 0 {
-        return 0;
-    }
-    body[n - 1]
-}
-
 // Closing or opening, by the first byte.
 fn find_kind(body: &[u8]) -> CallKind
-    ensures { λ r. ⌜ kindFor r ≡ cond (eqb (at (now (body .entry)) 0) 0) osfindClose osfindOpen ⌝ }
+    ensures { λ r. ⌜ kindFor r ≡ kindFrom 0x12 (now (body .entry)) ⌝ }
 {
-    if body.len() == 0 {
-        return CallKind::OsfindClose;
-    }
-    if body[0] == 0 {
+    if places::byte_at(body, 0) == 0 {
         return CallKind::OsfindClose;
     }
     CallKind::OsfindOpen

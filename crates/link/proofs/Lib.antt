@@ -1,3 +1,3 @@
-pub mod Shapes
 pub mod Steps
 pub mod Begins
+pub mod Settled

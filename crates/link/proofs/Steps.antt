@@ -2,14 +2,13 @@
 use Prim.Native.Nat.{ℕ, zero, suc, _+_, _-_, _≤_, _<_, _%_}
 use mathlib.Core.Path.{_≡_, refl, sym, ap, subst, _∙_}
 use mathlib.Core.Bool.{Bool, true, false, cond, not, _&&_}
-use mathlib.Core.List.{List, [], _∷_, _++_}
+use mathlib.Core.List.{List, [], _∷_}
 use native.Mathlib.Omega.{arith}
 use native.Mathlib.Nat.{le-of-lt, div-one}
-use native.Mathlib.Numerals.{add-one}
 use denote.Enum.Declared.{tagOf}
 use lib.Dec.{eqb, ltb}
-use lib.ListN.{length, take, set}
-use lib.Seq.{length-take-le, take-suc-set, take-set-le, getD-take, getD-set-same, getD-set-other}
+use lib.ListN.{length, take, drop, set, length-drop, length-set}
+use lib.Seq.{length-take-le, take-set-le, getD-take, getD-set-same, getD-set-other}
 use borrow.Author.Tests.{ltb-true, lt-ltb, ne-eqb, not-true}
 use Rattle.serial_rules.specs.Escape.{Piece, pending, dataByte, mark, pieceOf}
 use Rattle.serial_rules.specs.Marks.{inwardClass, errorMark, escapeMark, eventMark, addressMark}
@@ -17,6 +16,8 @@ use Rattle.serial_rules.specs.Body.{more, done, refused}
 use Rattle.serial_rules.specs.Fields.{at}
 use Rattle.serial_rules.specs.Reply.{shapeOf, shapeTurn, longest}
 use Rattle.serial_rules.specs.Link as rules
+use Rattle.serial_rules.proofs.Lent.{take-next}
+use Rattle.serial_rules.proofs.Shapes.{more-fits, fixed-done, text-done}
 use Rattle.serial_rules.proofs.Trip.{and-both}
 use Rattle.kind.specs.Kinds.{kindFor}
 use Rattle.kind.specs.declared.CallKind.{CallKind}
@@ -30,10 +31,9 @@ use Rattle.link.specs.declared.Link.{Link}
 use Rattle.link.specs.declared.Answer.{Answer}
 use Rattle.link.specs.declared.Answer.the-variants as variant
 use Rattle.link.specs.declared.Stepped.{Stepped}
-use Rattle.link.specs.View.{waitFor, actionFor, doingFor, replyRoom, ownRoom, usableOf, reportOf, waitLent, doingLent, pieceLent, replyAfter, ownAfter, Step-done}
-use Rattle.link.specs.Parts.{refusedFrom, pausedFrom, goingFrom, restingWith, frameOf, doingOf, Gives, Met, Mark-done, Opening-done, Data-done, Reply-done, Own-done, finishAt, Finished-done, failureFor}
+use Rattle.link.specs.View.{waitFor, actionFor, doingFor, replyRoom, ownRoom, usableOf, reportOf, answerFor, waitLent, doingLent, pieceLent, replyAfter, ownAfter, Step-done}
+use Rattle.link.specs.Parts.{refusedFrom, pausedFrom, goingFrom, restingWith, frameOf, doingOf, Link-gives, Met, Mark-done, Opening-done, Data-done, Reply-byte-done, Own-done, finishAt, Finished-done, failureFor}
 use Rattle.link.proofs.Answer as answers
-use Rattle.link.proofs.Shapes.{more-fits, fixed-done, text-done}
 
 -- a usable record, part by part
 pub usable-live : (l : Link) → usableOf l ≡ true → l .stopped ≡ false
@@ -61,35 +61,38 @@ told a h n e = omega (arith, ap (tagOf answers.the-type) e)
 
 -- the four ways in which a step leaves the record
 module _ (l : Link) (reply own : List ℕ) where
-  refused-gives : (n : ℕ) → Gives l (rules.gives (rules.refusal n) rules.stopped) reply own (refusedFrom l n) reply own
+  refused-gives : (n : ℕ) → Link-gives l (rules.gives (rules.refusal n) rules.stopped) reply own (refusedFrom l n) reply own
   unfolding usableOf
-  refused-gives n = record { step-is = refl; reply-bytes = refl; own-bytes = refl; stops = λ k e. refl }
+  refused-gives n = record { step-is = refl; answer-is = refl; reply-bytes = refl; own-bytes = refl; stops = λ k e. refl }
 
   paused-gives : usableOf l ≡ true →
-      Gives l (rules.gives rules.needMore (rules.live (rules.layer true (doingOf l own)) (frameOf l reply))) reply own (pausedFrom l) reply own
+      Link-gives l (rules.gives rules.needMore (rules.live (rules.layer true (doingOf l own)) (frameOf l reply))) reply own (pausedFrom l) reply own
   unfolding usableOf
   paused-gives u = record {
     step-is = simp (lt-ltb (l .got) (replyRoom (l .wait)) (usable-got l u), lt-ltb (l .held) (ownRoom (l .doing)) (usable-held l u));
+    answer-is = refl;
     reply-bytes = refl;
     own-bytes = refl;
     stops = λ k e. absurd (told variant.More (omega arith) k e);
   }
 
-  going-gives : (a : Answer) (d : Doing) (n : ℕ) → usableOf l ≡ true → n < ownRoom d → tagOf answers.the-type a < 8 →
-      Gives l (rules.gives (reportOf a reply own) (rules.live (rules.layer false (doingFor d (take n own))) (frameOf l reply))) reply own (goingFrom l a d n) reply own
+  going-gives : (a : Answer) (d : Doing) (n : ℕ) → usableOf l ≡ true → n < ownRoom d → tagOf answers.the-type a < 8 → a ≡ answerFor (reportOf a reply own) →
+      Link-gives l (rules.gives (reportOf a reply own) (rules.live (rules.layer false (doingFor d (take n own))) (frameOf l reply))) reply own (goingFrom l a d n) reply own
   unfolding usableOf
-  going-gives a d n u h t = record {
+  going-gives a d n u h t is = record {
     step-is = simp (lt-ltb (l .got) (replyRoom (l .wait)) (usable-got l u), lt-ltb n (ownRoom d) h);
+    answer-is = is;
     reply-bytes = refl;
     own-bytes = refl;
     stops = λ k e. absurd (told a t k e);
   }
 
-  resting-gives : (a : Answer) (w : Wait) (n : ℕ) → n < replyRoom w → tagOf answers.the-type a < 8 →
-      Gives l (rules.gives (reportOf a reply own) (rules.live (rules.layer false rules.none) (rules.frame (waitFor w) (take n reply)))) reply own (restingWith a w n) reply own
+  resting-gives : (a : Answer) (w : Wait) (n : ℕ) → n < replyRoom w → tagOf answers.the-type a < 8 → a ≡ answerFor (reportOf a reply own) →
+      Link-gives l (rules.gives (reportOf a reply own) (rules.live (rules.layer false rules.none) (rules.frame (waitFor w) (take n reply)))) reply own (restingWith a w n) reply own
   unfolding usableOf
-  resting-gives a w n h t = record {
+  resting-gives a w n h t is = record {
     step-is = simp (lt-ltb n (replyRoom w) h);
+    answer-is = is;
     reply-bytes = refl;
     own-bytes = refl;
     stops = λ k e. absurd (told a t k e);
@@ -134,18 +137,18 @@ DataAt l reply own b x reply-left own-left d =
 
 abbrev ReplyAt : Link → List ℕ → List ℕ → ℕ → Stepped → List ℕ → Wait → Type 0
 ReplyAt l reply own b x left w =
-    let m = rules.taken (frameOf l reply) (waitFor w) b in
-    Gives l (rules.gives (m .report) (rules.linkAt (rules.layer false rules.none) (m .next))) (waitLent reply (waitFor w) (take (l .got) reply) b) own x left own
+    let m = rules.datumMet (frameOf l reply) (waitFor w) b in
+    Link-gives l (rules.gives (m .report) (rules.linkAt (rules.layer false rules.none) (m .next))) (waitLent reply (waitFor w) (take (l .got) reply) b) own x left own
 
 module _ (l : Link) (m : ℕ) {x : Stepped} where
   pub opened : (a : Action) → usableOf l ≡ true → rules.markOutside m ≡ rules.opens (actionFor a) → x ≡ goingFrom l variant.More (Open a) 0 → Opening-done l m x
   unfolding rules.meets
-  opened a u e q reply own = rw (e, q) (going-gives l reply own variant.More (Open a) 0 u (has-own a) (omega arith))
+  opened a u e q reply own = rw (e, q) (going-gives l reply own variant.More (Open a) 0 u (has-own a) (omega arith) refl)
 
   pub escape-told : usableOf l ≡ true → inwardClass m ≡ escapeMark → x ≡ goingFrom l (variant.EscapeState (eqb (m % 2) 1)) Quiet 0 → Opening-done l m x
   unfolding rules.meets
   escape-told u e q reply own =
-      rw (escape-state m e, q) (going-gives l reply own (variant.EscapeState (eqb (m % 2) 1)) Quiet 0 u (omega arith) (omega arith))
+      rw (escape-state m e, q) (going-gives l reply own (variant.EscapeState (eqb (m % 2) 1)) Quiet 0 u (omega arith) (omega arith) refl)
 
   pub mark-refused : (inwardClass m ≡ errorMark → ⊥) → (inwardClass m ≡ escapeMark → ⊥) → (inwardClass m ≡ eventMark → ⊥) →
       (inwardClass m ≡ addressMark → ⊥) → x ≡ refusedFrom l 4 → Opening-done l m x
@@ -159,40 +162,40 @@ module _ (l : Link) (m : ℕ) {x : Stepped} where
   unfolding rules.meets
   mark-inside e q reply own = subst (MarkAt l reply own m x) (sym e) (rw q (refused-gives l reply own 5))
 
--- the lent bytes with one more behind the first n
-taken : (s : List ℕ) (n b : ℕ) → n < length s → take (n + 1) (set s n b) ≡ take n s ++ (b ∷ [])
-taken s n b h = rw (add-one, take-suc-set)
+-- a finished reply has all its bytes in the lent ones
+all-told : (n b : ℕ) (s : List ℕ) → n < length s → length (take (n + 1) (set s n b)) ≡ n + 1
+all-told n b s h = length-take-le (n + 1) (set s n b) (simp length-set (omega arith))
 
 -- a data byte outside an action
 module _ (l : Link) (reply : List ℕ) (b : ℕ) {x : Stepped} where
-  pub character-told : usableOf l ≡ true → l .wait ≡ Idle → x ≡ goingFrom l (variant.Character b) Quiet 0 → Reply-done l reply b x reply
+  pub character-told : usableOf l ≡ true → l .wait ≡ Idle → x ≡ goingFrom l (variant.Character b) Quiet 0 → Reply-byte-done l reply b x reply
   unfolding rules.meets
   character-told u e q own =
       subst (ReplyAt l reply own b x reply) (sym e)
-      (rw q (going-gives l reply own (variant.Character b) Quiet 0 u (omega arith) (omega arith)))
+      (rw q (going-gives l reply own (variant.Character b) Quiet 0 u (omega arith) (omega arith) refl))
 
   module _ {k : CallKind} (waits : l .wait ≡ Waiting k) (h : l .got < length reply) where
-    pub reply-refused : {n : ℕ} → shapeTurn (shapeOf (kindFor k)) (l .got) b ≡ refused n → x ≡ refusedFrom l n → Reply-done l reply b x reply
+    pub reply-refused : {n : ℕ} → shapeTurn (shapeOf (kindFor k)) (l .got) b ≡ refused n → x ≡ refusedFrom l n → Reply-byte-done l reply b x reply
     unfolding rules.meets
     reply-refused {n} t q own =
         subst (ReplyAt l reply own b x reply) (sym waits)
         (rw (length-take-le (l .got) reply (le-of-lt h), t, q) (refused-gives l reply own n))
 
     pub reply-more : shapeTurn (shapeOf (kindFor k)) (l .got) b ≡ more → x ≡ restingWith variant.More (Waiting k) (l .got + 1) →
-        Reply-done l reply b x (set reply (l .got) b)
+        Reply-byte-done l reply b x (set reply (l .got) b)
     unfolding rules.meets
     reply-more t q own =
         subst (ReplyAt l reply own b x (set reply (l .got) b)) (sym waits)
-        (rw (length-take-le (l .got) reply (le-of-lt h), t, q, ← taken reply (l .got) b h)
-        (resting-gives l (set reply (l .got) b) own variant.More (Waiting k) (l .got + 1) (more-fits (shapeOf (kindFor k)) (l .got) b t) (omega arith)))
+        (rw (length-take-le (l .got) reply (le-of-lt h), t, q, ← take-next reply (l .got) b h)
+        (resting-gives l (set reply (l .got) b) own variant.More (Waiting k) (l .got + 1) (more-fits (shapeOf (kindFor k)) (l .got) b t) (omega arith) refl))
 
     pub reply-ended : shapeTurn (shapeOf (kindFor k)) (l .got) b ≡ done → x ≡ restingWith (variant.Reply (l .got + 1)) Idle 0 →
-        Reply-done l reply b x (set reply (l .got) b)
+        Reply-byte-done l reply b x (set reply (l .got) b)
     unfolding rules.meets
     reply-ended t q own =
         subst (ReplyAt l reply own b x (set reply (l .got) b)) (sym waits)
-        (rw (length-take-le (l .got) reply (le-of-lt h), t, q, ← taken reply (l .got) b h)
-        (resting-gives l (set reply (l .got) b) own (variant.Reply (l .got + 1)) Idle 0 (omega arith) (omega arith)))
+        (rw (length-take-le (l .got) reply (le-of-lt h), t, q, ← take-next reply (l .got) b h)
+        (resting-gives l (set reply (l .got) b) own (variant.Reply (l .got + 1)) Idle 0 (omega arith) (omega arith) (ap variant.Reply (sym (all-told (l .got) b reply h)))))
 
 -- the last byte of an action's own stands behind the others
 at-before : (n b : ℕ) (own : List ℕ) (i : ℕ) → i < n → at (take n own) i ≡ at (set own n b) i
@@ -236,8 +239,8 @@ module _ (l : Link) (own : List ℕ) (b : ℕ) {x : Stepped} {a : Action} (is : 
     unfolding rules.meets
     own-more t q reply =
         subst (DataAt l reply own b x reply (set own (l .held) b)) (sym is)
-        (rw (length-take-le (l .held) own (le-of-lt h), t, q, ← taken own (l .held) b h)
-        (going-gives l reply (set own (l .held) b) variant.More (Open a) (l .held + 1) u (more-fits (rules.ownShape (actionFor a)) (l .held) b t) (omega arith)))
+        (rw (length-take-le (l .held) own (le-of-lt h), t, q, ← take-next own (l .held) b h)
+        (going-gives l reply (set own (l .held) b) variant.More (Open a) (l .held + 1) u (more-fits (rules.ownShape (actionFor a)) (l .held) b t) (omega arith) refl))
 
     pub own-ended : shapeTurn (rules.ownShape (actionFor a)) (l .held) b ≡ done → Finished-done l a (set own (l .held) b) x →
         Own-done l own b x (set own (l .held) b)
@@ -253,6 +256,17 @@ failure-told n k = go (eqb n 0) (eqb k 0)
     go true true = omega arith
     go true false = omega arith
     go false s = omega arith
+
+failure-sized : (reply own : List ℕ) (n k : ℕ) → k ≤ length (drop 1 own) → failureFor n k ≡ answerFor (reportOf (failureFor n k) reply own)
+failure-sized reply own n k h = go (eqb n 0) (eqb k 0)
+  where
+    whole : variant.Error n k ≡ variant.Error n (length (take k (drop 1 own)))
+    whole = rw (length-take-le k (drop 1 own) h)
+
+    go : (t s : Bool) → let a = cond t (cond s variant.Restart (variant.Error n k)) (variant.Error n k) in a ≡ answerFor (reportOf a reply own)
+    go true true = refl
+    go true false = whole
+    go false s = whole
 
 failure-report : (reply : List ℕ) (n k : ℕ) (t : List ℕ) → k ≤ length t → reportOf (failureFor n k) reply (n ∷ t) ≡ rules.failure n (take k t)
 failure-report reply n zero t h = go (eqb n 0)
@@ -278,20 +292,21 @@ module _ (l : Link) (own : List ℕ) {x : Stepped} {a : Action} where
   unfolding rules.meets
   error-ended is low high q reply =
       rw (is, q, ← failure-of reply own (l .held) low high)
-      (resting-gives l reply own (failureFor (at own 0) (l .held - 1)) Idle 0 (omega arith) (failure-told (at own 0) (l .held - 1)))
+      (resting-gives l reply own (failureFor (at own 0) (l .held - 1)) Idle 0 (omega arith) (failure-told (at own 0) (l .held - 1))
+      (failure-sized reply own (at own 0) (l .held - 1) (simp length-drop (omega arith))))
 
   pub event-ended : a ≡ Event → usableOf l ≡ true → x ≡ goingFrom l (variant.Event (at own 0) (at own 1) (at own 2)) Quiet 0 → Finished-done l a own x
   unfolding rules.meets
-  event-ended is u q reply = rw (is, q) (going-gives l reply own (variant.Event (at own 0) (at own 1) (at own 2)) Quiet 0 u (omega arith) (omega arith))
+  event-ended is u q reply = rw (is, q) (going-gives l reply own (variant.Event (at own 0) (at own 1) (at own 2)) Quiet 0 u (omega arith) (omega arith) refl)
 
   pub address-ended : a ≡ Address → usableOf l ≡ true → x ≡ goingFrom l (variant.Address (at own 0) (at own 1) (at own 2) (at own 3)) Quiet 0 →
       Finished-done l a own x
   unfolding rules.meets
   address-ended is u q reply =
-      rw (is, q) (going-gives l reply own (variant.Address (at own 0) (at own 1) (at own 2) (at own 3)) Quiet 0 u (omega arith) (omega arith))
+      rw (is, q) (going-gives l reply own (variant.Address (at own 0) (at own 1) (at own 2) (at own 3)) Quiet 0 u (omega arith) (omega arith) refl)
 
 -- any data byte
-pub data-outside : (l : Link) (reply own : List ℕ) (b : ℕ) {x : Stepped} {left : List ℕ} → l .doing ≡ Quiet → Reply-done l reply b x left → Data-done l reply own b x left own
+pub data-outside : (l : Link) (reply own : List ℕ) (b : ℕ) {x : Stepped} {left : List ℕ} → l .doing ≡ Quiet → Reply-byte-done l reply b x left → Data-done l reply own b x left own
 data-outside l reply own b {x} {left} e g = subst (DataAt l reply own b x left own) (sym e) (g own)
 
 -- a raw byte
@@ -300,6 +315,7 @@ module _ (l : Link) (reply own : List ℕ) (raw : ℕ) where
   unfolding rules.step replyAfter ownAfter
   at-stopped u = record {
     answer = rw u;
+    answer-is = rw u;
     next = rw u;
     reply-bytes = rw u;
     own-bytes = rw u;
@@ -313,6 +329,7 @@ module _ (l : Link) (reply own : List ℕ) (raw : ℕ) where
   unfolding rules.step rules.look replyAfter ownAfter
   live u e g = record {
     answer = rw (u, e) (ap (λ (s : rules.Step). s .report) (g .step-is));
+    answer-is = rw (u, e) (g .answer-is);
     next = rw (u, e) (ap (λ (s : rules.Step). s .next) (g .step-is));
     reply-bytes = rw (u, e) (g .reply-bytes);
     own-bytes = rw (u, e) (g .own-bytes);

@@ -8,6 +8,7 @@ use lib.ListN.{take}
 use Rattle.serial_rules.specs.Fields.{at}
 use Rattle.serial_rules.specs.Link as rules
 use Rattle.link.specs.declared.Wait.{Wait}
+use Rattle.link.specs.declared.Wait.the-variants.{Idle, Waiting}
 use Rattle.link.specs.declared.Action.{Action}
 use Rattle.link.specs.declared.Action.the-variants.{Error, Event, Address}
 use Rattle.link.specs.declared.Doing.{Doing}
@@ -18,10 +19,18 @@ use Rattle.link.specs.declared.Answer.the-variants as variant
 use Rattle.link.specs.declared.Stepped.{Stepped}
 use Rattle.link.specs.declared.Begun.{Begun}
 use Rattle.link.specs.declared.Started.{Started}
-use Rattle.link.specs.View.{waitFor, doingFor, viewOf, reportOf, tokenLent, doingLent, stoppedFrom}
+use Rattle.link.specs.View.{waitFor, doingFor, usableOf, viewOf, reportOf, answerFor, tokenLent, doingLent, stoppedFrom}
 
 abbrev pub begunFrom : Link → Begun → Started
 begunFrom l a = record { answer = a; link = l }
+
+-- the number that refuses any call, of a stopped link and of one where a call waits; 0 where nothing does
+abbrev pub busyWith : Wait → ℕ
+busyWith Idle = 0
+busyWith (Waiting kind) = 12
+
+abbrev pub barredBy : Link → ℕ
+barredBy l = cond (usableOf l) (busyWith (l .wait)) 7
 
 -- what a step leaves: the record stopped; an escape seen; the reply at its place; or no action open
 abbrev pub refusedFrom : Link → ℕ → Stepped
@@ -47,8 +56,9 @@ abbrev pub stepOf : Stepped → List ℕ → List ℕ → rules.Step
 stepOf r reply own = rules.gives (reportOf (r .answer) reply own) (viewOf (r .link) reply own)
 
 -- The result is that of a step of the rules, and the lent bytes left are those `after`; a refusal leaves the record given, stopped.
-pub record Gives (link : Link) (step : rules.Step) (reply-after own-after : List ℕ) (r : Stepped) (reply-left own-left : List ℕ) : Type 0 where
+pub record Link-gives (link : Link) (step : rules.Step) (reply-after own-after : List ℕ) (r : Stepped) (reply-left own-left : List ℕ) : Type 0 where
   pub step-is : stepOf r reply-left own-left ≡ step
+  pub answer-is : r .answer ≡ answerFor (step .report)
   pub reply-bytes : reply-left ≡ reply-after
   pub own-bytes : own-left ≡ own-after
   pub stops : (n : ℕ) → r .answer ≡ variant.Refused n → r .link ≡ stoppedFrom link
@@ -59,7 +69,7 @@ seenStep f s = rules.gives (rules.meets f (s .token) .report) (rules.linkAt (s .
 
 abbrev pub Met : Link → List ℕ → List ℕ → rules.Seen → Stepped → List ℕ → List ℕ → Type 0
 Met l reply own-after s r reply-left own-left =
-    Gives l (seenStep (frameOf l reply) s) (tokenLent reply (frameOf l reply) (s .token)) own-after r reply-left own-left
+    Link-gives l (seenStep (frameOf l reply) s) (tokenLent reply (frameOf l reply) (s .token)) own-after r reply-left own-left
 
 -- a mark, whatever bytes are lent: any, and one outside an action
 abbrev pub Mark-done : Link → ℕ → Stepped → Type 0
@@ -72,8 +82,8 @@ Opening-done l m r = (reply own : List ℕ) → Met l reply own (rules.markOutsi
 abbrev pub Data-done : Link → List ℕ → List ℕ → ℕ → Stepped → List ℕ → List ℕ → Type 0
 Data-done l reply own b r reply-left own-left = Met l reply (doingLent own (doingOf l own) b) (rules.dataSeen (doingOf l own) b) r reply-left own-left
 
-abbrev pub Reply-done : Link → List ℕ → ℕ → Stepped → List ℕ → Type 0
-Reply-done l reply b r reply-left = (own : List ℕ) → Met l reply own (rules.dataSeen rules.none b) r reply-left own
+abbrev pub Reply-byte-done : Link → List ℕ → ℕ → Stepped → List ℕ → Type 0
+Reply-byte-done l reply b r reply-left = (own : List ℕ) → Met l reply own (rules.dataSeen rules.none b) r reply-left own
 
 abbrev pub Own-done : Link → List ℕ → ℕ → Stepped → List ℕ → Type 0
 Own-done l own b r own-left = (reply : List ℕ) → Data-done l reply own b r reply own-left

@@ -51,6 +51,10 @@ ownRoom (Open a) = longest (rules.ownShape (actionFor a))
 unfoldable pub usableOf : Link → Bool
 usableOf l = not (l .stopped) && (ltb (l .got) (replyRoom (l .wait)) && ltb (l .held) (ownRoom (l .doing)))
 
+-- the bytes lent for an action's own
+abbrev pub ownLent : ℕ
+ownLent = 257
+
 -- the abstraction function: the reply so far is the first `got` bytes of the lent reply, the open action's own bytes the first `held` of the others
 abbrev pub viewOf : Link → List ℕ → List ℕ → rules.Link
 viewOf l reply own =
@@ -70,13 +74,25 @@ reportOf (variant.Error n k) reply own = rules.error n (take k (drop 1 own))
 reportOf variant.Restart reply own = rules.restart
 reportOf (variant.Refused n) reply own = rules.refusal n
 
+-- each report's answer: a finished reply and an error's text stand in the lent bytes, and the answer has their lengths
+abbrev pub answerFor : rules.Report → Answer
+answerFor rules.needMore = variant.More
+answerFor (rules.character b) = variant.Character b
+answerFor (rules.reply s) = variant.Reply (length s)
+answerFor (rules.escapeState on) = variant.EscapeState on
+answerFor (rules.event y x a) = variant.Event y x a
+answerFor (rules.address b3 b2 b1 b0) = variant.Address b3 b2 b1 b0
+answerFor (rules.error n t) = variant.Error n (length t)
+answerFor rules.restart = variant.Restart
+answerFor (rules.refusal n) = variant.Refused n
+
 -- every byte of the lent reply after a raw byte: a data byte that the waiting call takes stands behind the bytes so far
 abbrev pub waitLent : List ℕ → rules.Wait → List ℕ → ℕ → List ℕ
 waitLent reply rules.idle s b = reply
 waitLent reply (rules.waiting k) s b = turnLent reply (length s) b (shapeTurn (shapeOf k) (length s) b)
 
 abbrev pub tokenLent : List ℕ → rules.Frame → rules.Token → List ℕ
-tokenLent reply f rules.within = reply
+tokenLent reply f rules.underway = reply
 tokenLent reply f (rules.datum b) = waitLent reply (f .wait) (f .got) b
 tokenLent reply f (rules.acted r) = reply
 tokenLent reply f (rules.failed r) = reply
@@ -124,9 +140,15 @@ pub record Begin-done (link : Link) (kind : CallKind) (r : Started) : Type 0 whe
   pub waits : r .answer ≡ Waits → r .link ≡ waitingFrom link kind
   pub kept : (r .answer ≡ Waits → ⊥) → r .link ≡ link
 
+-- What `begin_none` promises of the link and the result, whatever bytes are lent: a call that is not carried leaves the link given.
+pub record Begin-none-done (link : Link) (r : Started) : Type 0 where
+  pub answer : (reply own : List ℕ) → begunOf (r .answer) ≡ rules.beginNone (viewOf link reply own) .answer
+  pub kept : r .link ≡ link
+
 -- What `step` promises of the link, the lent bytes before and after, the raw byte and the result, for every one of them.
 pub record Step-done (link : Link) (reply own : List ℕ) (raw : ℕ) (r : Stepped) (reply-left own-left : List ℕ) : Type 0 where
   pub answer : reportOf (r .answer) reply-left own-left ≡ rules.step (viewOf link reply own) raw .report
+  pub answer-is : r .answer ≡ answerFor (rules.step (viewOf link reply own) raw .report)
   pub next : viewOf (r .link) reply-left own-left ≡ rules.step (viewOf link reply own) raw .next
   pub reply-bytes : reply-left ≡ replyAfter (viewOf link reply own) raw reply
   pub own-bytes : own-left ≡ ownAfter (viewOf link reply own) raw own

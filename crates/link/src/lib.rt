@@ -11,8 +11,9 @@ ghost use Rattle.serial_rules.specs.Link.{ownShape};
 ghost use Rattle.shapes.specs.Shapes.{shapeFor};
 ghost use Rattle.link.specs.declared.Wait.the-variants.{Waiting};
 ghost use Rattle.link.specs.declared.Doing.the-variants.{Open};
-ghost use Rattle.link.specs.View.{actionFor, replyRoom, ownRoom, usableOf, fresh, Begin-done, Step-done};
-ghost use Rattle.link.specs.Parts.{begunFrom, refusedFrom, pausedFrom, goingFrom, restingWith, Mark-done, Opening-done, Data-done, Reply-done, Own-done, Finished-done, failureFor};
+ghost use Rattle.kind.specs.Kinds.{replyLent};
+ghost use Rattle.link.specs.View.{actionFor, replyRoom, ownRoom, usableOf, ownLent, fresh, Begin-done, Begin-none-done, Step-done};
+ghost use Rattle.link.specs.Parts.{begunFrom, barredBy, refusedFrom, pausedFrom, goingFrom, restingWith, Mark-done, Opening-done, Data-done, Reply-byte-done, Own-done, Finished-done, failureFor};
 
 // What waits: nothing, or one call of a kind.
 pub enum Wait {
@@ -77,6 +78,9 @@ pub struct Started {
 }
 
 impl Link {
+    // The bytes lent for an action's own; those for a reply are `CallKind::REPLY`.
+    pub const OWN: usize = 257;
+
     // A fresh link is idle.
     pub fn new() -> Link
         ensures { λ r. ⌜ r ≡ fresh ⌝ }
@@ -102,34 +106,45 @@ impl Link {
     pub fn begin(self, kind: CallKind) -> Started
         ensures { λ r. ⌜ Begin-done self kind r ⌝ }
     {
-        if !self.usable() {
-            return self.begun(Begun::Denied(7));
+        let barred = self.barred();
+        if barred != 0 {
+            return self.begun(Begun::Denied(barred));
         }
-        let wait = self.wait;
-        match wait {
-            Wait::Waiting(_) => self.begun(Begun::Denied(12)),
-            Wait::Idle => {
-                if kind.shape().longest() == 0 {
-                    return self.begun(Begun::Complete);
-                }
-                let doing = self.doing;
-                Started {
-                    answer: Begun::Waits,
-                    link: Link {
-                        wait: Wait::Waiting(kind),
-                        got: 0,
-                        escape: self.escape,
-                        doing: doing,
-                        held: self.held,
-                        stopped: self.stopped,
-                    },
-                }
-            }
+        if kind.shape().longest() == 0 {
+            return self.begun(Begun::Complete);
+        }
+        let doing = self.doing;
+        Started {
+            answer: Begun::Waits,
+            link: Link {
+                wait: Wait::Waiting(kind),
+                got: 0,
+                escape: self.escape,
+                doing: doing,
+                held: self.held,
+                stopped: self.stopped,
+            },
         }
     }
 
+    // Begins a call that is not carried: it is refused, and the link is as it was.
+    pub fn begin_none(self) -> Started
+        ensures { λ r. ⌜ Begin-none-done self r ⌝ }
+    {
+        let barred = self.barred();
+        if barred == 0 {
+            return self.begun(Begun::Denied(4));
+        }
+        self.begun(Begun::Denied(barred))
+    }
+
     // One raw byte.
-    pub fn step(self, raw: u8, reply: &mut [u8; 257], own: &mut [u8; 257]) -> Stepped
+    pub fn step(
+        self,
+        raw: u8,
+        reply: &mut [u8; CallKind::REPLY],
+        own: &mut [u8; Link::OWN],
+    ) -> Stepped
         ensures { λ r. ⌜ Step-done self (now (reply .entry)) (now (own .entry)) raw r (now (reply .exit)) (now (own .exit)) ⌝ }
     {
         if !self.usable() {
@@ -146,6 +161,20 @@ impl Link {
         }
     }
 
+    // The number that refuses any call: 7 on a stopped link, 12 while another waits; 0 where a call may begin.
+    fn barred(self) -> u8
+        ensures { λ r. ⌜ r ≡ barredBy self ⌝ }
+    {
+        if !self.usable() {
+            return 7;
+        }
+        let wait = self.wait;
+        match wait {
+            Wait::Idle => 0,
+            Wait::Waiting(_) => 12,
+        }
+    }
+
     // The answer, and the link given.
     fn begun(self, answer: Begun) -> Started
         ensures { λ r. ⌜ r ≡ begunFrom self answer ⌝ }
@@ -158,7 +187,7 @@ impl Link {
 
     // Whether the link is not stopped and within its limits.
     fn usable(self) -> bool
-        ensures { λ r. ⌜ (r ≡ usableOf self) × (r ≡ true → (self .got < 257) × (self .held < 257)) ⌝ }
+        ensures { λ r. ⌜ (r ≡ usableOf self) × (r ≡ true → (self .got < replyLent) × (self .held < ownLent)) ⌝ }
     {
         if self.stopped {
             return false;
@@ -221,7 +250,7 @@ impl Link {
 
     // A data byte: of the open action, or else of the reply.
     fn data_step(self, b: u8, reply: &mut [u8], own: &mut [u8]) -> Stepped
-        requires { ⌜ (usableOf self ≡ true) × (self .got < 257) × (self .held < 257) × (length (now reply) ≡ 257) × (length (now own) ≡ 257) ⌝ }
+        requires { ⌜ (usableOf self ≡ true) × (self .got < replyLent) × (self .held < ownLent) × (length (now reply) ≡ replyLent) × (length (now own) ≡ ownLent) ⌝ }
         ensures { λ r. ⌜ Data-done self (now (reply .entry)) (now (own .entry)) b r (now (reply .exit)) (now (own .exit)) ⌝ }
     {
         let doing = self.doing;
@@ -233,8 +262,8 @@ impl Link {
 
     // A data byte outside an action goes by what waits.
     fn reply_step(self, b: u8, reply: &mut [u8]) -> Stepped
-        requires { ⌜ (usableOf self ≡ true) × (self .got < 257) × (length (now reply) ≡ 257) ⌝ }
-        ensures { λ r. ⌜ Reply-done self (now (reply .entry)) b r (now (reply .exit)) ⌝ }
+        requires { ⌜ (usableOf self ≡ true) × (self .got < replyLent) × (length (now reply) ≡ replyLent) ⌝ }
+        ensures { λ r. ⌜ Reply-byte-done self (now (reply .entry)) b r (now (reply .exit)) ⌝ }
     {
         let wait = self.wait;
         match wait {
@@ -245,8 +274,8 @@ impl Link {
 
     // A byte of the reply that a call of this kind waits for.
     fn taking(self, kind: CallKind, b: u8, reply: &mut [u8]) -> Stepped
-        requires { ⌜ (self .wait ≡ Waiting kind) × (self .got < 257) × (length (now reply) ≡ 257) ⌝ }
-        ensures { λ r. ⌜ Reply-done self (now (reply .entry)) b r (now (reply .exit)) ⌝ }
+        requires { ⌜ (self .wait ≡ Waiting kind) × (self .got < replyLent) × (length (now reply) ≡ replyLent) ⌝ }
+        ensures { λ r. ⌜ Reply-byte-done self (now (reply .entry)) b r (now (reply .exit)) ⌝ }
     {
         let got = self.got;
         let at = got as usize;
@@ -266,7 +295,7 @@ impl Link {
 
     // A byte of the open action's own.
     fn own_step(self, action: Action, b: u8, own: &mut [u8]) -> Stepped
-        requires { ⌜ (usableOf self ≡ true) × (self .doing ≡ Open action) × (self .held < 257) × (length (now own) ≡ 257) ⌝ }
+        requires { ⌜ (usableOf self ≡ true) × (self .doing ≡ Open action) × (self .held < ownLent) × (length (now own) ≡ ownLent) ⌝ }
         ensures { λ r. ⌜ Own-done self (now (own .entry)) b r (now (own .exit)) ⌝ }
     {
         let held = self.held;
@@ -287,7 +316,7 @@ impl Link {
 
     // The open action has all its bytes. An error or restart ends the call that waits.
     fn finished(self, action: Action, own: &[u8]) -> Stepped
-        requires { ⌜ (usableOf self ≡ true) × (1 ≤ self .held) × (self .held < 257) × (length (now own) ≡ 257) ⌝ }
+        requires { ⌜ (usableOf self ≡ true) × (1 ≤ self .held) × (self .held < ownLent) × (length (now own) ≡ ownLent) ⌝ }
         ensures { λ r. ⌜ Finished-done self action (now (own .entry)) r ⌝ }
     {
         match action {
@@ -374,7 +403,7 @@ fn resting(answer: Answer, wait: Wait, got: u16) -> Stepped
 
 // The most reply bytes that what waits needs; an idle link has none.
 fn reply_room(wait: Wait) -> usize
-    ensures { λ r. ⌜ (r ≡ replyRoom wait) × (r ≤ 257) ⌝ }
+    ensures { λ r. ⌜ (r ≡ replyRoom wait) × (r ≤ replyLent) ⌝ }
 {
     match wait {
         Wait::Idle => 1,
@@ -384,7 +413,7 @@ fn reply_room(wait: Wait) -> usize
 
 // The most bytes of its own that an open action needs; where none is open there are none.
 fn own_room(doing: Doing) -> usize
-    ensures { λ r. ⌜ (r ≡ ownRoom doing) × (r ≤ 257) ⌝ }
+    ensures { λ r. ⌜ (r ≡ ownRoom doing) × (r ≤ ownLent) ⌝ }
 {
     match doing {
         Doing::Quiet => 1,

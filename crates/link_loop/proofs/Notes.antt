@@ -16,7 +16,7 @@ use Rattle.link.specs.declared.Answer.{Answer}
 use Rattle.link.specs.declared.Answer.the-variants as variant
 use Rattle.link.specs.declared.Stepped.{Stepped}
 use Rattle.link_loop.specs.declared.Ran.{Ran}
-use Rattle.link.specs.View.{reportOf, Step-done}
+use Rattle.link.specs.View.{reportOf, answerFor, Step-done}
 use Rattle.link_loop.specs.Run.{Runs, stop, took, passes, Passed, none, next, noteOf, notes, lastOf, Ran-done, Run-done}
 use Rattle.link_loop.specs.Parts.{endedFrom, endsOf, noteFor, passedFrom, Pass-done}
 
@@ -158,6 +158,7 @@ module _ {l q : Link} {reply own room reply-now own-now room-now : List ℕ} (ra
     reports = p .reports;
     passed = p .passed;
     steps = rw (append-nil (p .reports)) (p .steps);
+    sized = refl;
     within = omega arith;
     ended = λ _. e;
     stopped = λ other. absurd (other refl);
@@ -190,6 +191,7 @@ module _ {l q : Link} {reply own room reply-now own-now room-now : List ℕ} (ra
           reports = p .reports;
           passed = p .passed;
           steps = rw (last-is a reply-left own-left other, ← same, add-one, take-suc raw i 0) (runs-more (p .steps) d);
+          sized = rw (← same) (d .answer-is ∙ ap answerFor (sym (d .answer)));
           within = omega arith;
           ended = λ e. absurd (other e);
           stopped = λ _. not-true (passes (reportOf a reply-left own-left)) (ends-lent a reply-left own-left ∙ ends);

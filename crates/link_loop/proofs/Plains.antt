@@ -15,7 +15,7 @@ use Rattle.serial_rules.specs.Reply.{Kind, shapeOf, shapeTurn, longest}
 use Rattle.serial_rules.specs.Link as rules
 use Rattle.turns.specs.Plain.{plain, Plains, none, one, Plain-done}
 use Rattle.turns.proofs.Plain.{no-escape, done-plains, done-most, part-sets}
-use Rattle.kind.specs.Kinds.{kindFor}
+use Rattle.kind.specs.Kinds.{kindFor, replyLent}
 use Rattle.shapes.specs.Ahead.{aheadOf}
 use Rattle.kind.specs.declared.CallKind.{CallKind}
 use Rattle.shapes.proofs.Ahead.{ahead-more, ahead-fits}
@@ -82,7 +82,7 @@ module _ (l : Link) {k : CallKind} (usable : usableOf l ≡ true) (shut : l .esc
   mid-here : l ≡ mid k (l .got)
   mid-here = rw (waits, shut, quiet, none-held, usable-live l usable)
 
-  pub passes-plain : {raw left : List ℕ} {r : ℕ} (reply : List ℕ) (size : ℕ) → size ≡ aheadOf (shapeOf (kindFor k)) (l .got) → l .got + size ≤ 257 → length reply ≡ 257
+  pub passes-plain : {raw left : List ℕ} {r : ℕ} (reply : List ℕ) (size : ℕ) → size ≡ aheadOf (shapeOf (kindFor k)) (l .got) → l .got + size ≤ replyLent → length reply ≡ replyLent
       → Plain-done raw (take size (drop (l .got) reply)) r left → Pass-done l reply raw r (take (l .got) reply ++ (left ++ drop size (drop (l .got) reply)))
   passes-plain {raw} {left} {r} reply size is fits lent d =
       let part : length (take size (drop (l .got) reply)) ≡ size = length-take-le size (drop (l .got) reply) (simp length-drop (omega arith)) in
@@ -100,7 +100,7 @@ module _ (l : Link) {k : CallKind} (usable : usableOf l ≡ true) (shut : l .esc
 -- A step that the loop passes over leaves a usable link: only a refusal stops one.
 halts : (f : rules.Frame) (t : rules.Token) (y : rules.Layer) → rules.linkAt y (rules.meets f t .next) ≡ rules.stopped → passes (rules.meets f t .report) ≡ false
 unfolding rules.meets passes
-halts f rules.within y e = let z : _≡_ {A = ℕ} 0 1 = cc in absurd (omega arith)
+halts f rules.underway y e = let z : _≡_ {A = ℕ} 0 1 = cc in absurd (omega arith)
 halts f (rules.datum b) y e = waited (f .wait) e
   where
     turned : (k : Kind) (s : List ℕ) (u : Turn) → rules.linkAt y (rules.replyTurned k s b u .next) ≡ rules.stopped → passes (rules.replyTurned k s b u .report) ≡ false
@@ -108,7 +108,7 @@ halts f (rules.datum b) y e = waited (f .wait) e
     turned k s done e = let z : _≡_ {A = ℕ} 0 1 = cc in absurd (omega arith)
     turned k s (refused n) e = refl
 
-    waited : (w : rules.Wait) → rules.linkAt y (rules.taken f w b .next) ≡ rules.stopped → passes (rules.taken f w b .report) ≡ false
+    waited : (w : rules.Wait) → rules.linkAt y (rules.datumMet f w b .next) ≡ rules.stopped → passes (rules.datumMet f w b .report) ≡ false
     waited rules.idle e = let z : _≡_ {A = ℕ} 0 1 = cc in absurd (omega arith)
     waited (rules.waiting k) e = turned k (f .got) (shapeTurn (shapeOf k) (length (f .got)) b) e
 halts f (rules.acted r) y e = let z : _≡_ {A = ℕ} 0 1 = cc in absurd (omega arith)

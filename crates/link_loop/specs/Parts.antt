@@ -6,6 +6,7 @@ use lib.ListN.{length, take, replicate}
 use Rattle.serial_rules.specs.Link as rules
 use Rattle.link.specs.declared.Link.{Link}
 use Rattle.link.specs.declared.Answer.{Answer}
+use Rattle.kind.specs.Kinds.{replyLent}
 use Rattle.link.specs.View.{reportOf}
 use Rattle.link_loop.specs.declared.Ran.{Ran}
 use Rattle.link_loop.specs.Run.{Runs, passes, noteOf}
@@ -27,5 +28,5 @@ passedFrom l n = record { wait = l .wait; got = l .got + n; escape = l .escape; 
 
 pub record Pass-done (link : Link) (reply raw : List ℕ) (n : ℕ) (left : List ℕ) : Type 0 where
   pub within : n ≤ length raw
-  pub below : 0 < n → link .got + n ≤ 257
+  pub below : 0 < n → link .got + n ≤ replyLent
   pub steps : (own : List ℕ) → Runs link reply own (take n raw) (replicate n rules.needMore) (passedFrom link n) left own

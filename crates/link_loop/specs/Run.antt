@@ -11,7 +11,7 @@ use Rattle.link.specs.declared.Answer.{Answer}
 use Rattle.link.specs.declared.Answer.the-variants as variant
 use Rattle.link.specs.declared.Stepped.{Stepped}
 use Rattle.link_loop.specs.declared.Ran.{Ran}
-use Rattle.link.specs.View.{reportOf, Step-done}
+use Rattle.link.specs.View.{reportOf, answerFor, Step-done}
 
 -- from a link and its lent bytes, over raw bytes, with the reports, to the link and the lent bytes left
 pub data Runs : Link → List ℕ → List ℕ → List ℕ → List rules.Report → Link → List ℕ → List ℕ → Type 0 where
@@ -65,7 +65,7 @@ lastOf (variant.Error n k) reply own = reportOf (variant.Error n k) reply own �
 lastOf variant.Restart reply own = reportOf variant.Restart reply own ∷ []
 lastOf (variant.Refused n) reply own = reportOf (variant.Refused n) reply own ∷ []
 
--- "worst case": a note for each raw byte. Without that room the answer is 8, and nothing is used or touched.
+-- The room is for the worst case, a note for each raw byte. Without it the answer is 8, and nothing is used or touched.
 abbrev pub noRoom : Link → Ran
 noRoom l = record { answer = variant.Refused 8; used = 0; noted = 0; link = l }
 
@@ -74,6 +74,8 @@ pub record Ran-done (link : Link) (reply own raw room : List ℕ) (r : Ran) (rep
   pub reports : List rules.Report
   pub passed : Passed reports
   pub steps : Runs link reply own (take (r .used) raw) (reports ++ lastOf (r .answer) reply-left own-left) (r .link) reply-left own-left
+  -- a finished reply and an error's text have their whole lengths
+  pub sized : r .answer ≡ answerFor (reportOf (r .answer) reply-left own-left)
   pub within : r .used ≤ length raw
   -- need-more where the raw bytes end first, and only there; else a report that is not passed over
   pub ended : r .answer ≡ variant.More → r .used ≡ length raw

@@ -12,6 +12,7 @@ ghost use lib.ListN.{length};
 ghost use Rattle.escape.specs.Put.{Put};
 ghost use Rattle.link.specs.declared.Wait.the-variants.{Waiting};
 ghost use Rattle.link.specs.declared.Doing.the-variants.{Quiet};
+ghost use Rattle.kind.specs.Kinds.{replyLent};
 ghost use Rattle.link.specs.View.{usableOf};
 ghost use Rattle.link_loop.specs.Run.{Run-done};
 ghost use Rattle.link_loop.specs.Parts.{endedFrom, endsOf, noteFor, passedFrom, Pass-done};
@@ -30,8 +31,8 @@ pub struct Ran {
 pub fn run(
     link: Link,
     raw: &[u8],
-    reply: &mut [u8; 257],
-    own: &mut [u8; 257],
+    reply: &mut [u8; CallKind::REPLY],
+    own: &mut [u8; Link::OWN],
     room: &mut [u8],
 ) -> Ran
     ensures { λ r. ⌜ Run-done link (now (reply .entry)) (now (own .entry)) (now (raw .entry)) (now (room .entry)) r (now (reply .exit)) (now (own .exit)) (now (room .exit)) ⌝ }
@@ -64,7 +65,7 @@ pub fn run(
 
 // Plain raw bytes in the middle of the reply that waits: each would need more, and they are stored at once. Returns how many.
 fn pass(link: Link, raw: &[u8], reply: &mut [u8]) -> usize
-    requires { ⌜ (usableOf link ≡ true) × (length (now reply) ≡ 257) ⌝ }
+    requires { ⌜ (usableOf link ≡ true) × (length (now reply) ≡ replyLent) ⌝ }
     ensures { λ r. ⌜ Pass-done link (now (reply .entry)) (now (raw .entry)) r (now (reply .exit)) ⌝ }
 {
     if link.escape {
@@ -84,7 +85,7 @@ fn pass(link: Link, raw: &[u8], reply: &mut [u8]) -> usize
 }
 
 fn pass_reply(link: Link, kind: CallKind, raw: &[u8], reply: &mut [u8]) -> usize
-    requires { ⌜ (usableOf link ≡ true) × (link .escape ≡ false) × (link .doing ≡ Quiet) × (link .wait ≡ Waiting kind) × (length (now reply) ≡ 257) ⌝ }
+    requires { ⌜ (usableOf link ≡ true) × (link .escape ≡ false) × (link .doing ≡ Quiet) × (link .wait ≡ Waiting kind) × (length (now reply) ≡ replyLent) ⌝ }
     ensures { λ r. ⌜ Pass-done link (now (reply .entry)) (now (raw .entry)) r (now (reply .exit)) ⌝ }
 {
     let got = link.got as usize;
@@ -94,7 +95,7 @@ fn pass_reply(link: Link, kind: CallKind, raw: &[u8], reply: &mut [u8]) -> usize
 
 // The link after that many bytes of the reply.
 fn passed(link: Link, n: usize) -> Link
-    requires { ⌜ (0 < n → link .got + n ≤ 257) ⌝ }
+    requires { ⌜ (0 < n → link .got + n ≤ replyLent) ⌝ }
     ensures { λ r. ⌜ r ≡ passedFrom link n ⌝ }
 {
     let wait = link.wait;

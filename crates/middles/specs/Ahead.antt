@@ -4,7 +4,7 @@ use mathlib.Core.Bool.{cond}
 use mathlib.Core.List.{List}
 use lib.Dec.{eqb, ltb}
 use lib.ListN.{length, getD, drop}
-use Rattle.serial_rules.specs.Call.{stringLimit}
+use Rattle.serial_rules.specs.Call.{stringLimit, fileBlock}
 use Rattle.serial_rules.specs.Body.{ended}
 
 -- How many bytes behind the bytes s of a body need more, so long as they are plain (crate turns): up to the last byte of a block, to the place
@@ -16,7 +16,7 @@ abbrev pub findAhead : List ℕ → ℕ
 findAhead s = cond (eqb (length s) 0) 0 (cond (eqb (getD s 0 0) 0) 0 (stringLimit + 1 - length s))
 
 abbrev pub fileAhead : List ℕ → ℕ
-fileAhead s = cond (ltb (length s) 16) (16 - length s) (cond (ended (drop 16 s)) 0 (stringLimit + 16 - length s))
+fileAhead s = cond (ltb (length s) fileBlock) (fileBlock - length s) (cond (ended (drop fileBlock s)) 0 (stringLimit + fileBlock - length s))
 
 unfoldable pub aheadIn : ℕ → List ℕ → ℕ
 aheadIn code s =

@@ -62,11 +62,11 @@ fn file_ahead(s: &[u8]) -> usize
     ensures { λ r. ⌜ r ≡ fileAhead (now (s .entry)) ⌝ }
 {
     let n = s.len();
-    if n < 16 {
-        return 16 - n;
+    if n < Text::FILE_BLOCK {
+        return Text::FILE_BLOCK - n;
     }
-    if bodies::name_ended(&s[16..]) {
+    if bodies::name_ended(&s[Text::FILE_BLOCK..]) {
         return 0;
     }
-    up_to(n, Text::LIMIT + 16)
+    up_to(n, Text::LIMIT + Text::FILE_BLOCK)
 }

@@ -1,3 +1,4 @@
 pub mod Sessions
 pub mod Trips
 pub mod Calls
+pub mod Parallel

@@ -4,7 +4,7 @@ use mathlib.Core.Path.{_≡_, refl, sym, ap, ap₂, _∙_}
 use mathlib.Core.Bool.{true}
 use mathlib.Core.List.{List, _∷_, _++_, map}
 use Rattle.serial_rules.specs.Link as rules
-use Rattle.serial_rules.specs.Session.{Input, raw, Told, report, answer, tells, linkAfter, signs, layerAfter, says, movers, woven, Part, error, allGood, good, inputs, inputsOf, signOf, fill, behind, spread, withoutActions, rest}
+use Rattle.serial_rules.specs.Session.{Input, raw, Told, report, answer, tells, linkAfter, signs, layerAfter, says, movers, woven, Part, error, allGood, good, inputs, inputsOf, signOf, fill, behind, spread, withoutActions, between}
 use Rattle.serial_rules.proofs.Session.{layers-told, layers-after, weave}
 use Rattle.serial_rules.proofs.Actions.{actions-pass, error-ends-call}
 use Rattle.link.specs.declared.Link.{Link}
@@ -61,7 +61,7 @@ pub record Pass (f : rules.Frame) (ps : List Part) (told plain : List Told) (end
   pub same : end ≡ plain-end
 
 pub actions-move-nothing : {l q l′ q′ : Link} {reply own reply-end own-end reply′ own′ reply-end′ own-end′ : List ℕ} {told plain : List Told} (f : rules.Frame) (ps : List Part)
-    → viewOf l reply own ≡ rules.live rest f → viewOf l′ reply′ own′ ≡ rules.live rest f → allGood ps ≡ true
+    → viewOf l reply own ≡ rules.live between f → viewOf l′ reply′ own′ ≡ rules.live between f → allGood ps ≡ true
     → Sessions l reply own (inputs ps) told q reply-end own-end → Sessions l′ reply′ own′ (inputs (withoutActions ps)) plain q′ reply-end′ own-end′
     → (viewOf q′ reply-end′ own-end′ ≡ rules.stopped → ⊥) → Pass f ps told plain (viewOf q reply-end own-end) (viewOf q′ reply-end′ own-end′)
 actions-move-nothing f ps at at′ g t t′ h =
@@ -78,9 +78,9 @@ actions-move-nothing f ps at at′ g t t′ h =
 -- An error or restart in a stream: what was told before it stands; then it is told at its last byte, and the link goes on as a fresh one, so
 -- that no byte behind it is taken for the reply of the call that waited.
 pub error-ends : {l q : Link} {reply own reply-end own-end : List ℕ} {told : List Told} (f : rules.Frame) (ps : List Part) (n : ℕ) (t : List ℕ) (qs : List Part)
-    → viewOf l reply own ≡ rules.live rest f → allGood ps ≡ true → good (error n t) ≡ true → (linkAfter (rules.live rest f) (inputs ps) ≡ rules.stopped → ⊥)
+    → viewOf l reply own ≡ rules.live between f → allGood ps ≡ true → good (error n t) ≡ true → (linkAfter (rules.live between f) (inputs ps) ≡ rules.stopped → ⊥)
     → Sessions l reply own (inputs (ps ++ (error n t ∷ qs))) told q reply-end own-end
-    → (told ≡ tells (rules.live rest f) (inputs ps) ++ (fill (report rules.needMore) (behind (inputsOf (error n t))) ++ (report (rules.failure n t) ∷ tells rules.fresh (inputs qs))))
+    → (told ≡ tells (rules.live between f) (inputs ps) ++ (fill (report rules.needMore) (behind (inputsOf (error n t))) ++ (report (rules.failure n t) ∷ tells rules.fresh (inputs qs))))
     × (viewOf q reply-end own-end ≡ linkAfter rules.fresh (inputs qs))
 error-ends f ps n t qs at g k h w =
     let a = as-ruled w in

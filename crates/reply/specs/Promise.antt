@@ -1,8 +1,11 @@
 -- The program's replies, as the rules speak of them, and what reading the fields of one promises.
-use Prim.Native.Nat.{ℕ, _+_, _≤_}
+use Prim.Native.Nat.{ℕ}
 use mathlib.Core.Path.{_≡_}
 use mathlib.Core.List.{List}
-use lib.ListN.{length, take, drop}
+use mathlib.Core.Bool.{cond}
+use lib.Dec.{eqb}
+use lib.ListN.{take, drop}
+use Rattle.places.specs.Part.{Part-done}
 use Rattle.serial_rules.specs.Reply as rules
 use Rattle.kind.specs.Kinds.{kindFor}
 use Rattle.kind.specs.declared.CallKind.{CallKind}
@@ -24,13 +27,21 @@ replyFor (BlockCarryA carry a) = rules.blockCarryA carry a
 
 -- the reply of its numbers and of the parts of the bytes s that are its block and its string
 abbrev pub givenIn : Given → List ℕ → rules.Given
-givenIn g s = rules.given (replyFor (g .reply)) (take (g .«block_length») (drop (g .«block_start») s)) (take (g .«text_length») (drop (g .«text_start») s))
+givenIn g s = rules.given (replyFor (g .reply)) (take (g .block .length) (drop (g .block .start) s)) (take (g .text .length) (drop (g .text .start) s))
 
--- The result is the reply g of the rules, its parts inside the bytes.
+-- how many bytes stand before the block of a reply, and before its line: A before the block of "A, 4 bytes" and "A, 16 bytes", and the first
+-- byte before a line
+abbrev pub replyBlockBefore : rules.Reply → ℕ
+replyBlockBefore r = cond (eqb (rules.formIn r) 6) 1 0
+
+abbrev pub lineBefore : rules.Reply → ℕ
+lineBefore r = cond (rules.hasLine r) 1 0
+
+-- The result is the reply g of the rules, and its parts are at their places in the bytes.
 pub record Given-done (s : List ℕ) (g : rules.Given) (r : Given) : Type 0 where
-  pub reply-is : givenIn r s ≡ g
-  pub block-within : r .«block_start» + r .«block_length» ≤ length s
-  pub text-within : r .«text_start» + r .«text_length» ≤ length s
+  pub reply-is : replyFor (r .reply) ≡ g .reply
+  pub block-at : Part-done s (replyBlockBefore (g .reply)) (g .block) (r .block)
+  pub text-at : Part-done s (lineBefore (g .reply)) (g .text) (r .text)
 
 -- What `read_reply` promises of the kind, the bytes and the result.
 abbrev pub Read-done : CallKind → List ℕ → Given → Type 0

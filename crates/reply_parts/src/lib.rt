@@ -8,7 +8,7 @@ ghost use mathlib.Core.List.{[], _∷_};
 ghost use Rattle.serial_rules.specs.Reply.{carryByte, ackByte};
 ghost use Rattle.kind.specs.Kinds.{kindFor};
 ghost use Rattle.reply.specs.Promise.{replyFor};
-ghost use Rattle.reply_parts.specs.Parts.{partsWith, partsOk, Parts-done};
+ghost use Rattle.reply_parts.specs.Parts.{partsWith, partsOk, partsOf};
 
 // What is sent where a line was escaped, and as an acknowledgement without a meaning.
 const ESCAPED: u8 = 0xFF;
@@ -29,7 +29,7 @@ pub struct Parts {
 
 // The parts of a reply.
 pub fn parts_of(reply: Reply) -> Parts
-    ensures { λ r. ⌜ Parts-done (replyFor reply) r ⌝ }
+    ensures { λ r. ⌜ r ≡ partsOf (replyFor reply) ⌝ }
 {
     match reply {
         Reply::CarryA { carry, a } => numbers_only(0, [carry_byte(carry), a, 0], 2),

@@ -7,35 +7,42 @@ use native.Mathlib.Omega.{arith}
 use lib.Dec.{ltb}
 use lib.ListN.{length, take, length-take}
 use borrow.Author.Tests.{not-true, not-false}
-use Rattle.serial_rules.specs.Escape.{escaped}
 use Rattle.serial_rules.specs.Reply as rules
-use Rattle.fields.specs.Promise.{Writer-done}
+use Rattle.carrier.specs.declared.Carrier.{Carrier}
+use Rattle.carrier.specs.Carriers.{carrierOf}
+use Rattle.room.specs.Carriers.{coded}
+use Rattle.fields.specs.Promise.{Writer-done, Encoded}
 use Rattle.fields.specs.declared.Written.{Written}
 use Rattle.fields.specs.declared.Written.the-variants.{TooLong, BadField}
 use Rattle.reply_parts.specs.declared.Parts.{Parts}
-use Rattle.reply_parts.specs.Parts.{partsBytes, partsOk, Parts-done}
-use Rattle.reply_writer.specs.Promise.{Bytes-done}
+use Rattle.reply_parts.specs.Parts.{partsBytes, partsOk, partsOf}
+use Rattle.reply_parts.proofs.Laws.{parts-bytes, parts-ok, parts-before, parts-behind}
 
 -- the first n of a list are n
-pub taken : (n : ℕ) (l : List ℕ) → n ≤ length l → n ≡ length (take n l)
-taken n l h = simp length-take (omega arith)
+pub take-length : (n : ℕ) (l : List ℕ) → n ≤ length l → n ≡ length (take n l)
+take-length n l h = simp length-take (omega arith)
+
+-- the arrays of a reply's parts have room for their numbers
+pub parts-room : (r : rules.Reply) {p : Parts} → p ≡ partsOf r → (p .before ≤ length (p .head)) × (p .behind ≤ length (p .tail))
+parts-room r d = rw d (parts-before r, parts-behind r)
 
 -- The writer: refused, or the bytes of its parts are those of the reply.
-pub too-long : (k : rules.Kind) (r : rules.Reply) (b t out : List ℕ) → ltb 255 (length t) ≡ true
-    → Writer-done (rules.replyNumber k r b t (length out)) (escaped (rules.replyBytes r b t)) out TooLong out
-unfolding rules.replyNumber
-too-long k r b t out h = simp h (record { answer = refl; written = refl; bytes = refl })
+module _ (carrier : Carrier) (k : rules.Kind) (r : rules.Reply) (b t out : List ℕ) where
+  abbrev Reply-answer : Written → List ℕ → Type 0
+  Reply-answer w left = Writer-done (rules.replyNumber (carrierOf carrier) k r b t (length out)) (rules.replyEncoding (carrierOf carrier) r b t) out w left
 
-module _ (k : rules.Kind) (r : rules.Reply) (b t out : List ℕ) {p : Parts} {ok : Bool} (short : ltb 255 (length t) ≡ false) (d : Parts-done r p) (e : ok ≡ partsOk k p b t) where
-  judged : ok ≡ rules.replyOk k r b t
-  unfolding partsOk rules.replyOk
-  judged = rw (d .form-is, d .line-is) at e
-
-  pub bad-field : not ok ≡ true → Writer-done (rules.replyNumber k r b t (length out)) (escaped (rules.replyBytes r b t)) out BadField out
+  pub too-long : ltb 255 (length t) ≡ true → Reply-answer TooLong out
   unfolding rules.replyNumber
-  bad-field h = let o = sym judged ∙ not-true ok h in simp (short, o) (record { answer = refl; written = refl; bytes = refl })
+  too-long h = simp h (record { answer = refl; written = refl; bytes = refl })
 
-  pub wrote : {left : List ℕ} {w : Written} → not ok ≡ false → Bytes-done (partsBytes p b t) out w left
-      → Writer-done (rules.replyNumber k r b t (length out)) (escaped (rules.replyBytes r b t)) out w left
-  unfolding rules.replyNumber
-  wrote h w = let o = sym judged ∙ not-false ok h in let f = d .bytes-are b t in simp (short, o, ← f) w
+  module _ {p : Parts} {ok : Bool} (short : ltb 255 (length t) ≡ false) (d : p ≡ partsOf r) (e : ok ≡ partsOk k p b t) where
+    judged : ok ≡ rules.replyOk k r b t
+    judged = rw (d, parts-ok k r b t) at e
+
+    pub bad-field : not ok ≡ true → Reply-answer BadField out
+    unfolding rules.replyNumber
+    bad-field h = let o = sym judged ∙ not-true ok h in simp (short, o) (record { answer = refl; written = refl; bytes = refl })
+
+    pub wrote : {left : List ℕ} {w : Written} → not ok ≡ false → Encoded (coded carrier (partsBytes p b t)) out w left → Reply-answer w left
+    unfolding rules.replyNumber rules.replyEncoding coded
+    wrote h w = let o = sym judged ∙ not-false ok h in simp (short, o) (rw (d, parts-bytes r b t) at w)

@@ -1,20 +1,21 @@
 -- Feeding a slice: a chain of steps grows by one at its end; what `feed` promises on an answer and where the slice ends.
 use Prim.Native.Nat.{ℕ, _+_, _-_, _≤_, _<_}
-use mathlib.Core.Path.{_≡_, refl}
+use mathlib.Core.Path.{_≡_, refl, sym, ap, _∙_}
 use mathlib.Core.List.{List, [], _∷_, _++_, append-nil}
 use native.Mathlib.Numerals.{add-one}
 use native.Mathlib.Omega.{arith}
 use lib.ListN.{length, take, drop, replicate, getD, length-take, length-drop, length-append, length-replicate, replicate-append-replicate}
-use lib.Seq.{take-suc, take-all, take-add}
+use lib.Seq.{take-suc, take-add}
 use types.Run.{OneOf, miss}
 use denote.Enum.Declared.{tagOf}
 use Rattle.serial_rules.specs.Reader as rules
+use Rattle.serial_rules.proofs.Lent.{take-behind}
 use Rattle.request_reader.proofs.Answer as answers
 use Rattle.request_reader.specs.declared.Reader.{Reader}
 use Rattle.request_reader.specs.declared.Answer.{Answer}
 use Rattle.request_reader.specs.declared.Answer.the-variants.{More, Character, Request, Refused}
 use Rattle.request_reader.specs.declared.Stepped.{Stepped}
-use Rattle.request_reader.specs.View.{answerOf, Step-done}
+use Rattle.request_reader.specs.View.{answerOf, answerFor, Step-done}
 use Rattle.request_reader.specs.Read.{Read, stop, took}
 use Rattle.request_loop.specs.Feed.{lastOf, Feed-done}
 use Rattle.request_loop.specs.Pass.{passedFrom, Pass-done}
@@ -44,8 +45,7 @@ read-join (took e s) t = took e (read-join s t)
 pub passes : {r q at : Reader} {lent left end : List ℕ} {n : ℕ} (raw : List ℕ) (j : ℕ) → Read r lent (take j raw) (replicate j rules.needMore) q left
     → Pass-done q left (take (length raw - j) (drop j raw)) n end → at ≡ passedFrom q n → Read r lent (take (j + n) raw) (replicate (j + n) rules.needMore) at end
 passes {n = n} raw j s d e =
-    let tail : take (length raw - j) (drop j raw) ≡ drop j raw = take-all (length raw - j) (drop j raw) (simp length-drop (omega arith)) in
-    rw (e, take-add j n raw, ← tail, ← replicate-append-replicate j n rules.needMore) (read-join s (d .steps))
+    rw (e, take-add j n raw, ← take-behind j raw, ← replicate-append-replicate j n rules.needMore) (read-join s (d .steps))
 
 pub pass-within : {q : Reader} {left end : List ℕ} {n : ℕ} (raw : List ℕ) (j : ℕ) → j ≤ length raw → Pass-done q left (take (length raw - j) (drop j raw)) n end → j + n ≤ length raw
 pass-within raw j h d = let w = simp (length-take, length-drop) at (d .within) in omega arith
@@ -66,6 +66,7 @@ module _ {r q : Reader} {lent left : List ℕ} (raw : List ℕ) (i : ℕ) (so-fa
       record {
         waits = i;
         used = simp (other-last (o .answer) end other, length-append, length-replicate);
+        sized = d .answer-is ∙ ap answerFor (sym (d .answer));
         within = omega arith;
         steps = rw (other-last (o .answer) end other) (stepped h d);
         ended = λ e. absurd (miss others 0 tt (rw e at other));
@@ -76,6 +77,7 @@ module _ {r q : Reader} {lent left : List ℕ} (raw : List ℕ) (i : ℕ) (so-fa
       record {
         waits = i;
         used = simp (append-nil, length-replicate);
+        sized = refl;
         within = k;
         steps = rw append-nil so-far;
         ended = λ e. omega arith;

@@ -3,31 +3,33 @@ use Prim.Native.Nat.{ℕ, suc, _+_, _≤_, _<_}
 use native.Mathlib.Nat.{add-zero}
 use native.Mathlib.Numerals.{add-one}
 use native.Mathlib.Omega.{arith}
-use mathlib.Core.Path.{_≡_, refl, sym, subst, _∙_}
-use mathlib.Core.Bool.{Bool, true, false, cond}
+use mathlib.Core.Path.{_≡_, refl, sym, ap, subst, _∙_}
+use mathlib.Core.Bool.{Bool, true, false}
 use mathlib.Core.List.{List, [], _∷_, _++_, append-assoc, append-nil}
-use lib.Dec.{eqb}
 use lib.ListN.{length, getD, take, drop, set, replicate, length-append, length-drop, length-set}
 use lib.Seq.{length-take-le, getD-take, sets}
 use borrow.Author.Tests.{lt-ltb}
-use Rattle.serial_rules.specs.Escape.{Piece, pending, dataByte, mark}
-use Rattle.serial_rules.specs.Marks.{styleOf, codeIn}
+use Rattle.serial_rules.specs.Escape.{dataByte}
 use Rattle.serial_rules.specs.Call.{Carrier, serial, parallel}
-use Rattle.serial_rules.specs.Body.{Turn, more, done, refused, bodyTurn, longestBody}
+use Rattle.serial_rules.specs.Body.{more, bodyTurn, longestBody}
 use Rattle.serial_rules.specs.Reader as rules
+use Rattle.serial_rules.proofs.Lent.{take-next}
 use Rattle.turns.specs.Plain.{plain, Plains, none, one, Plain-done}
 use Rattle.turns.proofs.Plain.{no-escape, done-plains, done-most, part-sets}
+use Rattle.request_reader.specs.declared.Phase.{Phase}
 use Rattle.request_reader.specs.declared.Phase.the-variants.{Inside}
 use Rattle.request_reader.specs.declared.Reader.{Reader}
 use Rattle.request_reader.specs.declared.Answer.the-variants.{More}
 use Rattle.request_reader.specs.declared.Stepped.{Stepped}
-use Rattle.request_reader.specs.View.{carrierOf, within, viewOf, Step-done}
+use Rattle.request_reader.specs.View.{bodyRoom, insideLimits, limitsIn, keepsLimits, viewOf, Step-done}
+use Rattle.carrier.specs.Carriers.{carrierOf}
 use Rattle.middles.specs.Ahead.{aheadIn}
 use Rattle.middles.proofs.Middle.{Ahead-done, ahead-holds}
 use Rattle.request_reader.specs.Read.{Read, stop, took}
 use Rattle.request_loop.specs.Pass.{passedFrom, Pass-done}
 use Rattle.request_reader.proofs.Limits.{longest-fits}
-use Rattle.request_reader.proofs.Steps.{within-style, within-count, taken, inside-data, data-goes, at-inside}
+use Rattle.request_reader.proofs.Steps.{inside-style, inside-count, inside-data, data-goes, at-inside}
+use Rattle.request_reader.proofs.Settled.{step-refuses}
 
 -- a plain byte is data in itself, on either carrier
 data-in-itself : (c : Carrier) (b : ℕ) → plain b ≡ true → rules.pieceInside c false b ≡ dataByte b
@@ -42,15 +44,15 @@ plains-more b (one q ps) p = one q (plains-more b ps p)
 abbrev mid : Reader → ℕ → Reader
 mid r g = record { carrier = r .carrier; phase = Inside; escape = false; style = r .style; code = r .code; count = g }
 
-module _ (r : Reader) (ok : within r ≡ true) where
-  mid-within : (g : ℕ) → g < longestBody (r .code) → within (mid r g) ≡ true
-  unfolding within
-  mid-within g h = simp (within-style r ok, lt-ltb g (longestBody (r .code)) h)
+module _ (r : Reader) (ok : insideLimits r ≡ true) where
+  mid-limits : (g : ℕ) → g < longestBody (r .code) → insideLimits (mid r g) ≡ true
+  unfolding insideLimits
+  mid-limits g h = simp (inside-style r ok, lt-ltb g (longestBody (r .code)) h)
 
   mid-step : (g b : ℕ) (lent : List ℕ) → g + 1 < longestBody (r .code) → g < length lent → bodyTurn (r .code) (take g lent) b ≡ more → plain b ≡ true
       → Step-done (mid r g) lent b (record { answer = More; reader = mid r (suc g) }) (set lent g b)
   mid-step g b lent fits room turn p =
-      let w = mid-within g (omega arith) in
+      let w = mid-limits g (omega arith) in
       let same : mid r (g + 1) ≡ mid r (suc g) = rw (add-one g) in
       at-inside (mid r g) lent b (rw w)
       (inside-data (mid r g) lent (data-in-itself (carrierOf (r .carrier)) b p) (data-goes (mid r g) lent b w room fits turn (rw same)))
@@ -65,7 +67,7 @@ module _ (r : Reader) (ok : within r ≡ true) where
       let same : suc g + length xs ≡ g + suc (length xs) = omega arith in
       let turn : bodyTurn (r .code) (take g lent) x ≡ more = rw now (a .needs ys x ps p (omega arith)) in
       let k = length-append ys (x ∷ []) in
-      let next : take (suc g) (set lent g x) ≡ s ++ (ys ++ (x ∷ [])) = rw (← add-one g, taken lent g x (omega arith), now, append-assoc) in
+      let next : take (suc g) (set lent g x) ≡ s ++ (ys ++ (x ∷ [])) = rw (← add-one g, take-next lent g x (omega arith), now, append-assoc) in
       took (mid-step g x lent (omega arith) (omega arith) turn p)
       (rw same at (mid-steps s (ys ++ (x ∷ [])) xs n (suc g) (set lent g x) a below next (omega arith) (plains-more x ps p) qs (omega arith) (simp length-set (omega arith))))
 
@@ -76,13 +78,13 @@ passes-none r lent raw =
     record { within = omega arith; below = λ h. absurd (omega arith); steps = rw same stop }
 
 -- a reader inside a request, within its limits and with no escape seen, is one in the middle of a body
-module _ (r : Reader) (inside : r .phase ≡ Inside) (ok : within r ≡ true) (shut : r .escape ≡ false) where
+module _ (r : Reader) (inside : r .phase ≡ Inside) (ok : insideLimits r ≡ true) (shut : r .escape ≡ false) where
   -- one plain byte
-  pub plain-step : (lent : List ℕ) (b most : ℕ) → Ahead-done (r .code) (take (r .count) lent) most → 0 < most → length lent ≡ 273 → plain b ≡ true
+  pub plain-step : (lent : List ℕ) (b most : ℕ) → Ahead-done (r .code) (take (r .count) lent) most → 0 < most → length lent ≡ bodyRoom → plain b ≡ true
       → Step-done r lent b (record { answer = More; reader = passedFrom r 1 }) (set lent (r .count) b)
   plain-step lent b most a some whole p =
       let top = longest-fits (r .code) in
-      let count = within-count r ok in
+      let count = inside-count r ok in
       let s : length (take (r .count) lent) ≡ r .count = length-take-le (r .count) lent (omega arith) in
       let fits = a .fits (omega arith) in
       let turn : bodyTurn (r .code) (take (r .count) lent) b ≡ more = rw append-nil at (a .needs [] b none p (omega arith)) in
@@ -91,11 +93,11 @@ module _ (r : Reader) (inside : r .phase ≡ Inside) (ok : within r ≡ true) (s
       subst (λ (q : Reader). Step-done q lent b (record { answer = More; reader = passedFrom r 1 }) (set lent (r .count) b)) (sym here)
       (rw there (mid-step r ok (r .count) b lent (omega arith) (omega arith) turn p))
 
-  pub passes-plain : {raw left : List ℕ} {n : ℕ} (lent : List ℕ) (most size : ℕ) → Ahead-done (r .code) (take (r .count) lent) most → size ≡ most → length lent ≡ 273
+  pub passes-plain : {raw left : List ℕ} {n : ℕ} (lent : List ℕ) (most size : ℕ) → Ahead-done (r .code) (take (r .count) lent) most → size ≡ most → length lent ≡ bodyRoom
       → Plain-done raw (take size (drop (r .count) lent)) n left → Pass-done r lent raw n (take (r .count) lent ++ (left ++ drop size (drop (r .count) lent)))
   passes-plain {raw} {left} {n} lent most size a is whole d =
       let top = longest-fits (r .code) in
-      let count = within-count r ok in
+      let count = inside-count r ok in
       let s : length (take (r .count) lent) ≡ r .count = length-take-le (r .count) lent (omega arith) in
       let fits = a .fits (omega arith) in
       let part : length (take size (drop (r .count) lent)) ≡ size = length-take-le size (drop (r .count) lent) (simp length-drop (omega arith)) in
@@ -113,57 +115,33 @@ module _ (r : Reader) (inside : r .phase ≡ Inside) (ok : within r ≡ true) (s
       }
 
 -- what the body's bytes ahead are, of the bytes lent
-pub ahead-of : (r : Reader) (lent : List ℕ) {n : ℕ} → within r ≡ true → length lent ≡ 273 → getD lent 1 0 < 256 → n ≡ aheadIn (r .code) (take (r .count) lent)
+pub ahead-of : (r : Reader) (lent : List ℕ) {n : ℕ} → insideLimits r ≡ true → length lent ≡ bodyRoom → getD lent 1 0 < 256 → n ≡ aheadIn (r .code) (take (r .count) lent)
     → Ahead-done (r .code) (take (r .count) lent) n
 ahead-of r lent ok whole byte e =
     let top = longest-fits (r .code) in
-    let count = within-count r ok in
+    let count = inside-count r ok in
     let s : length (take (r .count) lent) ≡ r .count = length-take-le (r .count) lent (omega arith) in
     rw e (ahead-holds (r .code) (take (r .count) lent) (λ two. omega (arith, getD-take (r .count) lent 1 0 (omega arith))))
 
-pub end-fits : (r : Reader) (lent : List ℕ) (most : ℕ) → within r ≡ true → length lent ≡ 273 → Ahead-done (r .code) (take (r .count) lent) most → r .count + most ≤ 273
+pub end-fits : (r : Reader) (lent : List ℕ) (most : ℕ) → insideLimits r ≡ true → length lent ≡ bodyRoom → Ahead-done (r .code) (take (r .count) lent) most → r .count + most ≤ bodyRoom
 end-fits r lent most ok whole a =
     let top = longest-fits (r .code) in
-    let count = within-count r ok in
+    let count = inside-count r ok in
     let s : length (take (r .count) lent) ≡ r .count = length-take-le (r .count) lent (omega arith) in
     omega (arith, a .fits (omega arith))
 
--- A step that needs more and leaves the reader inside a request leaves it within its limits: only a refusal stops it.
-turned-stops : (style code : ℕ) (s : List ℕ) (b : ℕ) (t : Turn) → rules.turned style code s b t .next ≡ rules.stopped → rules.turned style code s b t .answer ≡ rules.needMore → ⊥
-turned-stops style code s b more e f = let z : _≡_ {A = ℕ} 0 1 = cc in omega arith
-turned-stops style code s b done e f = let z : _≡_ {A = ℕ} 0 1 = cc in omega arith
-turned-stops style code s b (refused n) e f = let z : _≡_ {A = ℕ} 0 1 = cc in omega arith
+-- the limits of a reader inside a request
+pub inside-keeps : (r : Reader) → r .phase ≡ Inside → keepsLimits r ≡ true → insideLimits r ≡ true
+inside-keeps r inside keeps = sym (ap (λ (p : Phase). limitsIn p r) inside) ∙ keeps
 
-inside-stops : (style code : ℕ) (s : List ℕ) (p : Piece) → rules.insideStep style code s p .next ≡ rules.stopped → rules.insideStep style code s p .answer ≡ rules.needMore → ⊥
-inside-stops style code s pending e f = let z : _≡_ {A = ℕ} 0 1 = cc in omega arith
-inside-stops style code s (dataByte b) e f = turned-stops style code s b (bodyTurn code s b) e f
-inside-stops style code s (mark m) e f = let z : _≡_ {A = ℕ} 0 1 = cc in omega arith
-
-begun-stops : (style code : ℕ) (t : Bool) → cond t (rules.gives (rules.request style 0 []) (rules.outside false)) (rules.gives rules.needMore (rules.inside false style code [])) .next ≡ rules.stopped → ⊥
-begun-stops style code true e = let z : _≡_ {A = ℕ} 0 1 = cc in omega arith
-begun-stops style code false e = let z : _≡_ {A = ℕ} 0 1 = cc in omega arith
-
-mark-stops : (style code : ℕ) (t : Bool) → cond t (rules.begun style code) (rules.stops 4) .next ≡ rules.stopped → cond t (rules.begun style code) (rules.stops 4) .answer ≡ rules.needMore → ⊥
-mark-stops style code true e f = begun-stops style code (eqb code 0) e
-mark-stops style code false e f = let z : _≡_ {A = ℕ} 0 1 = cc in omega arith
-
-outside-stops : (c : Carrier) (p : Piece) → rules.outsideStep c p .next ≡ rules.stopped → rules.outsideStep c p .answer ≡ rules.needMore → ⊥
-outside-stops c pending e f = let z : _≡_ {A = ℕ} 0 1 = cc in omega arith
-outside-stops c (dataByte b) e f = let z : _≡_ {A = ℕ} 0 1 = cc in omega arith
-outside-stops c (mark m) e f = mark-stops (styleOf m) (codeIn m) (rules.starts c m) e f
-
-step-stops : (c : Carrier) (r : rules.Reader) (x : ℕ) → rules.step c r x .next ≡ rules.stopped → rules.step c r x .answer ≡ rules.needMore → ⊥
-unfolding rules.step
-step-stops c rules.stopped x e f = let z : _≡_ {A = ℕ} 0 1 = cc in omega arith
-step-stops c (rules.outside s) x e f = outside-stops c (rules.pieceOutside c s x) e f
-step-stops c (rules.inside s style code l) x e f = inside-stops style code l (rules.pieceInside c s x) e f
-
-pub still-within : {r : Reader} {lent left : List ℕ} {x : ℕ} {o : Stepped} → Step-done r lent x o left → o .answer ≡ More → o .reader .phase ≡ Inside → within (o .reader) ≡ true
-unfolding within
-still-within {r} {lent} {left} {x} {o} d e inside = go (within (o .reader)) refl
+-- A step that needs more leaves a reader within its limits: only a refusal stops one.
+pub still-keeps : {r : Reader} {lent left : List ℕ} {x : ℕ} {o : Stepped} → Step-done r lent x o left → o .answer ≡ More → keepsLimits (o .reader) ≡ true
+still-keeps {r} {lent} {left} {x} {o} d e = go (keepsLimits (o .reader)) refl
   where
-    go : (t : Bool) → within (o .reader) ≡ t → t ≡ true
+    go : (t : Bool) → keepsLimits (o .reader) ≡ t → t ≡ true
     go true w = refl
     go false w =
-        let at : viewOf (o .reader) left ≡ rules.stopped = rw (inside, w) in
-        absurd (step-stops (carrierOf (r .carrier)) (viewOf r lent) x (sym (d .next) ∙ at) (sym (d .answer) ∙ rw e))
+        let at : viewOf (o .reader) left ≡ rules.stopped = rw w in
+        let n = step-refuses (carrierOf (r .carrier)) (viewOf r lent) x (sym (d .next) ∙ at) in
+        let z : _≡_ {A = ℕ} 0 1 = cc (e, n .1) in
+        absurd (omega arith)

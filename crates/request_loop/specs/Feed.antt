@@ -8,7 +8,7 @@ use Rattle.request_reader.specs.declared.Reader.{Reader}
 use Rattle.request_reader.specs.declared.Answer.{Answer}
 use Rattle.request_reader.specs.declared.Answer.the-variants.{More, Character, Request, Refused}
 use Rattle.request_loop.specs.declared.Fed.{Fed}
-use Rattle.request_reader.specs.View.{answerOf}
+use Rattle.request_reader.specs.View.{answerOf, answerFor}
 use Rattle.request_reader.specs.Read.{Read}
 
 -- the answer that ended the reading, where one did
@@ -26,6 +26,8 @@ told waits a left = replicate waits rules.needMore ++ lastOf a left
 pub record Feed-done (reader : Reader) (lent raw : List ℕ) (r : Fed) (left : List ℕ) : Type 0 where
   pub waits : ℕ
   pub used : r .used ≡ length (told waits (r .answer) left)
+  -- the length of a finished request is that of its body
+  pub sized : r .answer ≡ answerFor (answerOf (r .answer) left)
   pub within : r .used ≤ length raw
   pub steps : Read reader lent (take (r .used) raw) (told waits (r .answer) left) (r .reader) left
   -- need-more is the answer where the slice ends first, and only there

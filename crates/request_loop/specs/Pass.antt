@@ -4,6 +4,7 @@ use mathlib.Core.List.{List}
 use lib.ListN.{length, take, replicate}
 use Rattle.serial_rules.specs.Reader as rules
 use Rattle.request_reader.specs.declared.Reader.{Reader}
+use Rattle.request_reader.specs.View.{bodyRoom}
 use Rattle.request_reader.specs.Read.{Read}
 
 abbrev pub passedFrom : Reader → ℕ → Reader
@@ -11,5 +12,5 @@ passedFrom r n = record { carrier = r .carrier; phase = r .phase; escape = r .es
 
 pub record Pass-done (reader : Reader) (lent raw : List ℕ) (n : ℕ) (left : List ℕ) : Type 0 where
   pub within : n ≤ length raw
-  pub below : 0 < n → reader .count + n ≤ 273
+  pub below : 0 < n → reader .count + n ≤ bodyRoom
   pub steps : Read reader lent (take n raw) (replicate n rules.needMore) (passedFrom reader n) left

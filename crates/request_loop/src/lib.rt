@@ -6,7 +6,7 @@ ghost use Prim.Native.Nat.{_+_, _≤_, _<_};
 ghost use mathlib.Core.Path.{_≡_};
 ghost use mathlib.Core.Bool.{true, false};
 ghost use lib.ListN.{length};
-ghost use Rattle.request_reader.specs.View.{within};
+ghost use Rattle.request_reader.specs.View.{bodyRoom, insideLimits, keepsLimits};
 ghost use Rattle.request_reader.specs.declared.Phase.the-variants.{Inside};
 ghost use Rattle.request_loop.specs.Feed.{Feed-done};
 ghost use Rattle.request_loop.specs.Pass.{passedFrom, Pass-done};
@@ -19,7 +19,7 @@ pub struct Fed {
 }
 
 // Raw bytes, up to the first answer that is not need-more.
-pub fn feed(reader: Reader, raw: &[u8], body: &mut [u8; 273]) -> Fed
+pub fn feed(reader: Reader, raw: &[u8], body: &mut [u8; Reader::BODY]) -> Fed
     ensures { λ r. ⌜ Feed-done reader (now (body .entry)) (now (raw .entry)) r (now (body .exit)) ⌝ }
 {
     let mut at = reader;
@@ -49,7 +49,7 @@ pub fn feed(reader: Reader, raw: &[u8], body: &mut [u8; 273]) -> Fed
 
 // Plain raw bytes in the middle of a field: each would need more, and they are stored at once. Returns how many.
 fn pass(reader: Reader, raw: &[u8], body: &mut [u8]) -> usize
-    requires { ⌜ (reader .phase ≡ Inside → within reader ≡ true) × (length (now body) ≡ 273) ⌝ }
+    requires { ⌜ (keepsLimits reader ≡ true) × (length (now body) ≡ bodyRoom) ⌝ }
     ensures { λ r. ⌜ Pass-done reader (now (body .entry)) (now (raw .entry)) r (now (body .exit)) ⌝ }
 {
     if reader.escape {
@@ -64,7 +64,7 @@ fn pass(reader: Reader, raw: &[u8], body: &mut [u8]) -> usize
 }
 
 fn pass_body(reader: Reader, raw: &[u8], body: &mut [u8]) -> usize
-    requires { ⌜ (reader .phase ≡ Inside) × (within reader ≡ true) × (reader .escape ≡ false) × (length (now body) ≡ 273) ⌝ }
+    requires { ⌜ (reader .phase ≡ Inside) × (insideLimits reader ≡ true) × (reader .escape ≡ false) × (length (now body) ≡ bodyRoom) ⌝ }
     ensures { λ r. ⌜ Pass-done reader (now (body .entry)) (now (raw .entry)) r (now (body .exit)) ⌝ }
 {
     let count = reader.count as usize;
@@ -75,7 +75,7 @@ fn pass_body(reader: Reader, raw: &[u8], body: &mut [u8]) -> usize
 
 // The reader after that many bytes of the body.
 fn passed(reader: Reader, n: usize) -> Reader
-    requires { ⌜ (0 < n → reader .count + n ≤ 273) ⌝ }
+    requires { ⌜ (0 < n → reader .count + n ≤ bodyRoom) ⌝ }
     ensures { λ r. ⌜ r ≡ passedFrom reader n ⌝ }
 {
     let carrier = reader.carrier;

@@ -8,18 +8,16 @@ use native.Mathlib.Nat.{div-one}
 use lib.Dec.{eqb, ltb, leb}
 use lib.ListN.{length, getD, take, drop}
 use lib.Seq.{length-take-le, getD-take}
-use borrow.Author.Tests.{ltb-true, leb-true, eqb-false, not-true, le-leb, eq-eqb}
-use Rattle.serial_rules.specs.Call.{return, stringLimit, Carrier, serial, parallel, styleOk}
+use borrow.Author.Tests.{ltb-true, leb-true, eqb-false, not-true}
+use Rattle.serial_rules.specs.Call.{return, stringLimit, Carrier, serial, parallel}
 use Rattle.serial_rules.proofs.Trip.{and-both}
-use Rattle.serial_rules.specs.Marks.{bit, isCode, styleOf, codeIn, startsRequest}
+use Rattle.serial_rules.proofs.Shapes.{choice}
+use Rattle.serial_rules.specs.Marks.{bit, isCode, codeIn, startsRequest}
 use Rattle.serial_rules.specs.Reader.{starts}
+use Rattle.request_reader.specs.View.{bodyRoom}
 use Rattle.serial_rules.specs.Body.{Turn, more, done, refused, stringTurn, fixedTurn, checkedTurn, wordTurn, findTurn, nameTurn, ended, fileTurn, bodyTurn, longestBody}
 
--- what holds on both sides holds of the choice
-choice : {A : Type 0} (P : A → Type 0) (t : Bool) {a b : A} → (t ≡ true → P a) → (t ≡ false → P b) → P (cond t a b)
-choice P true f g = f refl
-choice P false f g = g refl
-
+-- what holds on both sides holds of two choices by one test
 choices : {A B : Type 0} (P : A → B → Type 0) (t : Bool) {a b : A} {x y : B} → (t ≡ true → P a x) → (t ≡ false → P b y) → P (cond t a b) (cond t x y)
 choices P true f g = f refl
 choices P false f g = g refl
@@ -100,7 +98,7 @@ at-most true h k = h
 at-most false h k = k
 
 -- no body is longer than OSFILE's
-pub longest-fits : (code : ℕ) → longestBody code ≤ 273
+pub longest-fits : (code : ℕ) → longestBody code ≤ bodyRoom
 unfolding longestBody
 longest-fits code =
     at-most (eqb code 0x02) (omega arith) (at-most (eqb code 0x04) (omega arith)
@@ -128,16 +126,7 @@ code-body code is n0 =
     from-code code 9 even h9 (omega arith) (λ h10. from-code code 10 even h10 (omega arith) (λ h11.
     from-code code 11 even h11 (omega arith) (λ h12. absurd (omega arith))))))))))))
 
--- a mark that starts a request has a style of its carrier and a code
-pub starts-style : (carrier : Carrier) (m : ℕ) → m < 256 → starts carrier m ≡ true → styleOk carrier (styleOf m) ≡ true
-unfolding startsRequest
-starts-style serial m byte e =
-    let low = eqb-false (m / 128 % 2) 1 (not-true (bit m 128) (and-both (not (bit m 128)) (isCode (codeIn m)) e .0)) in
-    le-leb (m / 32) 3 (omega arith)
-starts-style parallel m byte e =
-    let top = leb-true m 0x16 (and-both (not (bit m 1)) (leb m 0x16) e .1) in
-    eq-eqb (m / 32) 0 (omega arith)
-
+-- a mark that starts a request has a code
 starts-code : (carrier : Carrier) (m : ℕ) → starts carrier m ≡ true → isCode (codeIn m) ≡ true
 unfolding startsRequest
 starts-code serial m e = and-both (not (bit m 128)) (isCode (codeIn m)) e .1

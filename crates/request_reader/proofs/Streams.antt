@@ -6,12 +6,13 @@ use mathlib.Core.List.{List, _∷_, _++_}
 use lib.ListN.{length}
 use Rattle.serial_rules.specs.Call as call
 use Rattle.serial_rules.specs.Reader as rules
-use Rattle.serial_rules.specs.Stream.{readerAfter, answers, finished, opened, accepted, Gives}
+use Rattle.serial_rules.specs.Stream.{readerAfter, answers, finished, opened, accepted, First-answer}
 use Rattle.serial_rules.proofs.Stream.{stream-kept}
 use Rattle.serial_rules.proofs.Trip.{written-then-read}
-use Rattle.request_reader.specs.declared.Carrier.{Carrier}
+use Rattle.carrier.specs.declared.Carrier.{Carrier}
+use Rattle.carrier.specs.Carriers.{carrierOf}
 use Rattle.request_reader.specs.declared.Reader.{Reader}
-use Rattle.request_reader.specs.View.{carrierOf, viewOf, fresh}
+use Rattle.request_reader.specs.View.{viewOf, fresh}
 use Rattle.request_reader.specs.Read.{Read, stop, took}
 
 -- the carrier of a reader stays, and the answers and the end are the rules'
@@ -37,7 +38,7 @@ pub reads-request : {q : Reader} {lent end : List ℕ} {gave : List rules.Answer
     → call.styleOk (carrierOf carrier) style ≡ true → call.callOk c b t ≡ true → length t ≤ 255
     → Read (fresh carrier) lent (call.encodingOf (carrierOf carrier) style c b t ++ r) gave q end
     → (gave ≡ answers (carrierOf carrier) (rules.outside false) (call.encodingOf (carrierOf carrier) style c b t ++ r))
-    × Gives (carrierOf carrier) (rules.outside false) (call.encodingOf (carrierOf carrier) style c b t ++ r)
+    × First-answer (carrierOf carrier) (rules.outside false) (call.encodingOf (carrierOf carrier) style c b t ++ r)
     (rules.request style (call.codeOf c) (call.bodyOf c b t)) (rules.outside false) r
 reads-request carrier style c b t r s ok h d = (as-ruled d .told, written-then-read (carrierOf carrier) style c b t r s ok h)
 

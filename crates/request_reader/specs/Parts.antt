@@ -1,24 +1,18 @@
 -- The private types as the rules speak of them, and what the parts of a step promise.
 use Prim.Native.Nat.{ℕ}
 use mathlib.Core.Path.{_≡_}
-use mathlib.Core.Bool.{Bool, cond}
+use mathlib.Core.Bool.{Bool}
 use mathlib.Core.List.{List}
 use lib.ListN.{take}
 use Rattle.serial_rules.specs.Escape as escape
 use Rattle.serial_rules.specs.Reader as rules
-use Rattle.request_reader.specs.View.{carrierOf, answerOf, viewOf, pieceLent, stoppedFrom}
-use Rattle.request_reader.specs.declared.Phase.{Phase}
-use Rattle.request_reader.specs.declared.Phase.the-variants.{Outside, Inside, Stopped}
+use Rattle.carrier.specs.Carriers.{carrierOf}
+use Rattle.request_reader.specs.View.{answerOf, answerFor, viewOf, pieceLent, stoppedFrom}
+use Rattle.request_reader.specs.declared.Phase.the-variants.{Outside, Inside}
 use Rattle.request_reader.specs.declared.Reader.{Reader}
 use Rattle.request_reader.specs.declared.Answer.{Answer}
 use Rattle.request_reader.specs.declared.Answer.the-variants.{More, Refused}
 use Rattle.request_reader.specs.declared.Stepped.{Stepped}
-
--- the phase of a record whose limits are kept or not
-abbrev pub standingOf : Phase → Bool → Phase
-standingOf Outside ok = Outside
-standingOf Inside ok = cond ok Inside Stopped
-standingOf Stopped ok = Stopped
 
 -- what a step leaves: the record stopped; outside a request; or inside one
 abbrev pub refusedFrom : Reader → ℕ → Stepped
@@ -35,19 +29,20 @@ stepOf r lent = rules.gives (answerOf (r .answer) lent) (viewOf (r .reader) lent
 
 -- The result is that of a step of the rules, and the lent bytes left are `after`; the carrier stays; a refusal leaves the record given,
 -- stopped.
-pub record Gives (reader : Reader) (step : rules.Step) (after : List ℕ) (r : Stepped) (left : List ℕ) : Type 0 where
+pub record Reader-gives (reader : Reader) (step : rules.Step) (after : List ℕ) (r : Stepped) (left : List ℕ) : Type 0 where
   pub step-is : stepOf r left ≡ step
+  pub answer-is : r .answer ≡ answerFor (step .answer)
   pub bytes : left ≡ after
   pub carrier : r .reader .carrier ≡ reader .carrier
   pub stops : (n : ℕ) → r .answer ≡ Refused n → r .reader ≡ stoppedFrom reader
 
 -- a piece outside a request, whatever bytes are lent
 abbrev pub Outside-done : Reader → escape.Piece → Stepped → Type 0
-Outside-done reader p r = (lent : List ℕ) → Gives reader (rules.outsideStep (carrierOf (reader .carrier)) p) lent r lent
+Outside-done reader p r = (lent : List ℕ) → Reader-gives reader (rules.outsideStep (carrierOf (reader .carrier)) p) lent r lent
 
 -- a piece inside a request
 abbrev pub Inside-done : Reader → List ℕ → escape.Piece → Stepped → List ℕ → Type 0
 Inside-done reader lent p r left =
-    Gives reader
+    Reader-gives reader
     (rules.insideStep (reader .style) (reader .code) (take (reader .count) lent) p)
     (pieceLent lent (reader .code) (take (reader .count) lent) p) r left

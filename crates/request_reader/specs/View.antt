@@ -1,17 +1,17 @@
 -- How a reader record with its lent body stands for the rules' reader, and what a step promises.
 use Prim.Native.Nat.{ℕ}
 use mathlib.Core.Path.{_≡_}
-use mathlib.Core.Bool.{Bool, false, cond, _&&_}
+use mathlib.Core.Bool.{Bool, true, false, cond, _&&_}
 use mathlib.Core.List.{List}
-use lib.Dec.{ltb}
+use lib.Dec.{eqb, ltb}
 use lib.ListN.{length, take}
 use Rattle.serial_rules.specs.Escape as escape
 use Rattle.serial_rules.specs.Call as call
 use Rattle.serial_rules.specs.Body as body
 use Rattle.serial_rules.specs.Lent.{turnLent}
 use Rattle.serial_rules.specs.Reader as rules
-use Rattle.request_reader.specs.declared.Carrier.{Carrier}
-use Rattle.request_reader.specs.declared.Carrier.the-variants.{Serial, Parallel}
+use Rattle.carrier.specs.declared.Carrier.{Carrier}
+use Rattle.carrier.specs.Carriers.{carrierOf}
 use Rattle.request_reader.specs.declared.Phase.{Phase}
 use Rattle.request_reader.specs.declared.Phase.the-variants.{Outside, Inside, Stopped}
 use Rattle.request_reader.specs.declared.Reader.{Reader}
@@ -19,22 +19,38 @@ use Rattle.request_reader.specs.declared.Answer.{Answer}
 use Rattle.request_reader.specs.declared.Answer.the-variants.{More, Character, Request, Refused}
 use Rattle.request_reader.specs.declared.Stepped.{Stepped}
 
-abbrev pub carrierOf : Carrier → call.Carrier
-carrierOf Serial = call.serial
-carrierOf Parallel = call.parallel
+-- how many bytes are lent for a body
+abbrev pub bodyRoom : ℕ
+bodyRoom = 273
 
--- "one whose record exceeds its limits counts as stopped": the style, a code that has a body, and a count below that code's longest body
-unfoldable pub within : Reader → Bool
-within r = call.styleOk (carrierOf (r .carrier)) (r .style) && ltb (r .count) (body.longestBody (r .code))
+-- "one whose record exceeds its limits counts as stopped": outside a request style, code and count are 0; inside one the style is the
+-- carrier's, the code has a body, and the count is below that code's longest body
+abbrev pub outsideLimits : Reader → Bool
+outsideLimits r = eqb (r .style) 0 && (eqb (r .code) 0 && eqb (r .count) 0)
 
-abbrev pub placed : Phase → Bool → Bool → ℕ → ℕ → List ℕ → rules.Reader
-placed Outside ok e style code s = rules.outside e
-placed Inside ok e style code s = cond ok (rules.inside e style code s) rules.stopped
-placed Stopped ok e style code s = rules.stopped
+unfoldable pub insideLimits : Reader → Bool
+insideLimits r = call.styleOk (carrierOf (r .carrier)) (r .style) && ltb (r .count) (body.longestBody (r .code))
+
+abbrev pub limitsIn : Phase → Reader → Bool
+limitsIn Outside r = outsideLimits r
+limitsIn Inside r = insideLimits r
+limitsIn Stopped r = true
+
+abbrev pub keepsLimits : Reader → Bool
+keepsLimits r = limitsIn (r .phase) r
+
+-- the phase that a record counts as
+abbrev pub standingOf : Reader → Phase
+standingOf r = cond (keepsLimits r) (r .phase) Stopped
+
+abbrev pub placed : Phase → Bool → ℕ → ℕ → List ℕ → rules.Reader
+placed Outside e style code s = rules.outside e
+placed Inside e style code s = rules.inside e style code s
+placed Stopped e style code s = rules.stopped
 
 -- the abstraction function: the body so far is the first `count` bytes of the lent body
 abbrev pub viewOf : Reader → List ℕ → rules.Reader
-viewOf r lent = placed (r .phase) (within r) (r .escape) (r .style) (r .code) (take (r .count) lent)
+viewOf r lent = placed (standingOf r) (r .escape) (r .style) (r .code) (take (r .count) lent)
 
 -- each answer's number and values; a finished body is the first `length` bytes of the lent body
 abbrev pub answerOf : Answer → List ℕ → rules.Answer
@@ -42,6 +58,13 @@ answerOf More lent = rules.needMore
 answerOf (Character b) lent = rules.character b
 answerOf (Request style code n) lent = rules.request style code (take n lent)
 answerOf (Refused n) lent = rules.refusal n
+
+-- the program's answer to one of the rules: a finished request tells how long its body is
+abbrev pub answerFor : rules.Answer → Answer
+answerFor rules.needMore = More
+answerFor (rules.character b) = Character b
+answerFor (rules.request style code s) = Request style code (length s)
+answerFor (rules.refusal n) = Refused n
 
 -- every lent byte after a raw byte: a data byte that the body takes stands behind the bytes so far, and no other byte changes
 abbrev pub pieceLent : List ℕ → ℕ → List ℕ → escape.Piece → List ℕ
@@ -65,6 +88,7 @@ stoppedFrom r = record { carrier = r .carrier; phase = Stopped; escape = r .esca
 -- What `step` promises of the reader, the lent body before and after, the raw byte and the result, for every one of them.
 pub record Step-done (reader : Reader) (lent : List ℕ) (raw : ℕ) (r : Stepped) (left : List ℕ) : Type 0 where
   pub answer : answerOf (r .answer) left ≡ rules.step (carrierOf (reader .carrier)) (viewOf reader lent) raw .answer
+  pub answer-is : r .answer ≡ answerFor (rules.step (carrierOf (reader .carrier)) (viewOf reader lent) raw .answer)
   pub next : viewOf (r .reader) left ≡ rules.step (carrierOf (reader .carrier)) (viewOf reader lent) raw .next
   pub bytes : left ≡ lentAfter (carrierOf (reader .carrier)) (viewOf reader lent) raw lent
   pub carrier : r .reader .carrier ≡ reader .carrier

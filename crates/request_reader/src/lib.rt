@@ -1,21 +1,16 @@
 // The stepwise reader of requests: one raw byte at a time, the body so far in bytes that the caller lends.
+use carrier::Carrier;
 use escape::Piece;
 use turns::Turn;
 ghost use mathlib.Core.Path.{_≡_};
 ghost use mathlib.Core.Bool.{true};
 ghost use lib.ListN.{length};
 ghost use Rattle.escape.specs.Layer.{pieceFor};
-ghost use Rattle.serial_rules.specs.Call.{styleOk};
 ghost use Rattle.serial_rules.specs.Reader.{pieceOutside, pieceInside, starts};
 ghost use Rattle.serial_rules.specs.Escape.{mark, dataByte};
-ghost use Rattle.request_reader.specs.View.{carrierOf, within, fresh, Step-done};
-ghost use Rattle.request_reader.specs.Parts.{standingOf, refusedFrom, restingFrom, goingFrom, Outside-done, Inside-done};
-
-// The serial lead, with the escape layer and marks, or the parallel side, with plain codes and bodies.
-pub enum Carrier {
-    Serial,
-    Parallel,
-}
+ghost use Rattle.carrier.specs.Carriers.{carrierOf};
+ghost use Rattle.request_reader.specs.View.{bodyRoom, outsideLimits, insideLimits, standingOf, fresh, Step-done};
+ghost use Rattle.request_reader.specs.Parts.{refusedFrom, restingFrom, goingFrom, Outside-done, Inside-done};
 
 pub enum Phase {
     Outside,
@@ -23,7 +18,8 @@ pub enum Phase {
     Stopped,
 }
 
-// A reader. The body so far is the first `count` bytes of the lent body. A record over its limits counts as stopped.
+// A reader. The body so far is the first `count` bytes of the lent body; outside a request style, code and count are 0. A record over its
+// limits counts as stopped.
 pub struct Reader {
     pub carrier: Carrier,
     pub phase: Phase,
@@ -48,6 +44,9 @@ pub struct Stepped {
 }
 
 impl Reader {
+    // How many bytes are lent for a body.
+    pub const BODY: usize = 273;
+
     pub fn new(carrier: Carrier) -> Reader
         ensures { λ r. ⌜ r ≡ fresh carrier ⌝ }
     {
@@ -70,7 +69,7 @@ impl Reader {
     }
 
     // One raw byte.
-    pub fn step(self, raw: u8, body: &mut [u8; 273]) -> Stepped
+    pub fn step(self, raw: u8, body: &mut [u8; Reader::BODY]) -> Stepped
         ensures { λ r. ⌜ Step-done self (now (body .entry)) raw r (now (body .exit)) ⌝ }
     {
         let standing = self.standing();
@@ -84,29 +83,47 @@ impl Reader {
         }
     }
 
-    // The phase, with the limits tested.
+    // The phase that the record counts as.
     fn standing(self) -> Phase
-        ensures { λ r. ⌜ r ≡ standingOf (self .phase) (within self) ⌝ }
+        ensures { λ r. ⌜ r ≡ standingOf self ⌝ }
     {
         let phase = self.phase;
         match phase {
-            Phase::Outside => Phase::Outside,
-            Phase::Stopped => Phase::Stopped,
+            Phase::Outside => {
+                if self.keeps_outside_limits() {
+                    return Phase::Outside;
+                }
+                Phase::Stopped
+            }
             Phase::Inside => {
-                if self.keeps_limits() {
+                if self.keeps_inside_limits() {
                     return Phase::Inside;
                 }
                 Phase::Stopped
             }
+            Phase::Stopped => Phase::Stopped,
         }
     }
 
+    // Whether nothing of a request is held.
+    fn keeps_outside_limits(self) -> bool
+        ensures { λ r. ⌜ r ≡ outsideLimits self ⌝ }
+    {
+        if self.style != 0 {
+            return false;
+        }
+        if self.code != 0 {
+            return false;
+        }
+        self.count == 0
+    }
+
     // Whether the style is one of the carrier's, and the body has room for a byte.
-    fn keeps_limits(self) -> bool
-        ensures { λ r. ⌜ r ≡ within self ⌝ }
+    fn keeps_inside_limits(self) -> bool
+        ensures { λ r. ⌜ r ≡ insideLimits self ⌝ }
     {
         let carrier = self.carrier;
-        if style_ok(carrier, self.style) {
+        if carrier.has_style(self.style) {
             let count = self.count as usize;
             return count < bodies::longest_body(self.code);
         }
@@ -151,7 +168,7 @@ impl Reader {
 
     // A raw byte inside a request.
     fn inside_step(self, raw: u8, body: &mut [u8]) -> Stepped
-        requires { ⌜ (within self ≡ true) × (length (now body) ≡ 273) ⌝ }
+        requires { ⌜ (insideLimits self ≡ true) × (length (now body) ≡ bodyRoom) ⌝ }
         ensures { λ r. ⌜ Inside-done self (now (body .entry)) (pieceInside (carrierOf (self .carrier)) (self .escape) raw) r (now (body .exit)) ⌝ }
     {
         let carrier = self.carrier;
@@ -165,7 +182,7 @@ impl Reader {
 
     // A data byte of the body.
     fn data_step(self, b: u8, body: &mut [u8]) -> Stepped
-        requires { ⌜ (within self ≡ true) × (length (now body) ≡ 273) ⌝ }
+        requires { ⌜ (insideLimits self ≡ true) × (length (now body) ≡ bodyRoom) ⌝ }
         ensures { λ r. ⌜ Inside-done self (now (body .entry)) (dataByte b) r (now (body .exit)) ⌝ }
     {
         let style = self.style;
@@ -245,16 +262,6 @@ impl Reader {
                 count: count,
             },
         }
-    }
-}
-
-// The styles of a carrier.
-fn style_ok(carrier: Carrier, style: u8) -> bool
-    ensures { λ r. ⌜ r ≡ styleOk (carrierOf carrier) style ⌝ }
-{
-    match carrier {
-        Carrier::Serial => style <= 3,
-        Carrier::Parallel => style == 0,
     }
 }
 

@@ -1,61 +1,57 @@
 // The writer of the requests of the calls that a client sends.
 ghost use mathlib.Core.Path.{_≡_};
-ghost use mathlib.Core.List.{_++_};
-ghost use Rattle.serial_rules.specs.Call.{serial, parallel, heading};
-ghost use Rattle.room.specs.Carriers.{carrierOf, coded};
-ghost use Rattle.fields.specs.Promise.{Length-done};
+ghost use Rattle.carrier.specs.Carriers.{carrierOf};
+ghost use Rattle.fields.specs.Promise.{Encoded};
+ghost use Rattle.calls.specs.Rows.{headStart, rowRaw, Writable};
 ghost use Rattle.request_writer.specs.Promise.{Request-done};
-ghost use Rattle.calls.specs.Rows.{headStart, headIn, tailIn, Writable};
 use calls::Call;
 use calls::Row;
+use carrier::Carrier;
 use fields::Written;
 use strings::Text;
 
-// Writes a request for the serial lead into the start of `out`; a refused one has touched no byte.
-pub fn write_serial(style: u8, call: Call, block: &[u8], text: &[u8], out: &mut [u8]) -> Written
-    ensures { λ r. ⌜ Request-done serial style call (now (block .entry)) (now (text .entry)) (now (out .entry)) r (now (out .exit)) ⌝ }
-{
-    write(true, style, call, block, text, out)
-}
-
-// The same for the parallel side: the plain code, style 0, no escapes.
-pub fn write_parallel(style: u8, call: Call, block: &[u8], text: &[u8], out: &mut [u8]) -> Written
-    ensures { λ r. ⌜ Request-done parallel style call (now (block .entry)) (now (text .entry)) (now (out .entry)) r (now (out .exit)) ⌝ }
-{
-    write(false, style, call, block, text, out)
-}
-
-// Both carriers: the checks, in the order of their answers, then the request.
-fn write(serial: bool, style: u8, call: Call, block: &[u8], text: &[u8], out: &mut [u8]) -> Written
-    ensures { λ r. ⌜ Request-done (carrierOf serial) style call (now (block .entry)) (now (text .entry)) (now (out .entry)) r (now (out .exit)) ⌝ }
+// Writes a request into the start of `out`: for the serial lead the mark of code and style and the body with each escape byte doubled, for the
+// parallel side the plain code and the body as it is. The checks come in the order of their answers; a refused request has touched no byte.
+pub fn write_request(
+    carrier: Carrier,
+    style: u8,
+    call: Call,
+    block: &[u8],
+    text: &[u8],
+    out: &mut [u8],
+) -> Written
+    ensures { λ r. ⌜ Request-done (carrierOf carrier) style call (now (block .entry)) (now (text .entry)) (now (out .entry)) r (now (out .exit)) ⌝ }
 {
     if Text::LIMIT < text.len() {
         return Written::TooLong;
     }
     let row = calls::row_of(call, calls::length_byte(block.len()));
-    if !calls::given_ok(serial, style, row, block, text) {
+    if !calls::given_ok(carrier, style, row, block, text) {
         return Written::BadField;
     }
-    let n = write_row(serial, style, row, block, text, out);
-    if n == 0 {
-        return Written::NoRoom;
-    }
-    Written::Done(n)
+    write_row(carrier, style, row, block, text, out)
 }
 
 // Writes the request of a row, whose style, block and string keep their rules: the escape and the mark, or the plain code, and the body.
-fn write_row(serial: bool, style: u8, row: Row, block: &[u8], text: &[u8], out: &mut [u8]) -> usize
-    requires { ⌜ Writable serial style row ⌝ }
-    ensures { λ r. ⌜ Length-done (heading (carrierOf serial) style (row .code) ++ coded serial (headIn row ++ (now (block .entry) ++ (now (text .entry) ++ tailIn row)))) (now (out .entry)) r (now (out .exit)) ⌝ }
+fn write_row(
+    carrier: Carrier,
+    style: u8,
+    row: Row,
+    block: &[u8],
+    text: &[u8],
+    out: &mut [u8],
+) -> Written
+    requires { ⌜ Writable carrier style row ⌝ }
+    ensures { λ r. ⌜ Encoded (rowRaw carrier style row (now (block .entry)) (now (text .entry))) (now (out .entry)) r (now (out .exit)) ⌝ }
 {
     let start = [escape::Piece::ESCAPE, style * 32 + row.code];
-    let from = head_start(serial);
+    let from = head_start(carrier);
     let head = row.head;
     let before = row.before;
     let tail = row.tail;
     let behind = row.behind;
-    fields::write_length(
-        serial,
+    fields::write_fields(
+        carrier,
         &start[from..],
         &head[..before],
         block,
@@ -66,8 +62,11 @@ fn write_row(serial: bool, style: u8, row: Row, block: &[u8], text: &[u8], out: 
 }
 
 // Where the heading starts in the escape and the mark: the parallel side has no escape.
-fn head_start(serial: bool) -> usize
-    ensures { λ r. ⌜ r ≡ headStart serial ⌝ }
+fn head_start(carrier: Carrier) -> usize
+    ensures { λ r. ⌜ r ≡ headStart carrier ⌝ }
 {
-    if serial { 0 } else { 1 }
+    match carrier {
+        Carrier::Serial => 0,
+        Carrier::Parallel => 1,
+    }
 }

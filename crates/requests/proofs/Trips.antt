@@ -1,30 +1,37 @@
 -- Round trips of the program's own writer and reader, on both carriers and for every call.
 use Prim.Native.Nat.{ℕ, _+_, _≤_}
-use mathlib.Core.Path.{_≡_, sym, ap₂, subst, _∙_}
-use mathlib.Core.Bool.{true, false, _&&_}
+use mathlib.Core.Path.{_≡_, refl, sym, ap, ap₂, subst, _∙_}
+use mathlib.Core.Bool.{true, false, _&&_, true≢false}
 use mathlib.Core.List.{List, _++_}
 use borrow.Author.Tests.{ltb-false, le-ltb}
 use lib.Dec.{ltb}
 use lib.ListN.{length}
 use Rattle.serial_rules.specs.Call as rule
 use Rattle.serial_rules.specs.Call.{codeOf, bodyOf, styleOk, callOk, encodingOf, writerNumber, stringLimit}
-use Rattle.serial_rules.specs.Fields.{fieldsOf, fields}
-use Rattle.serial_rules.specs.Reply.{kindOf, kindIn}
+use Rattle.serial_rules.specs.Marks.{isCode}
+use Rattle.serial_rules.specs.Fields.{Fields as Taken, fieldsOf, fields}
+use Rattle.serial_rules.specs.Reply.{kindOf, known, kindIn}
 use Rattle.serial_rules.specs.Reader.{Reader as Ruled, Answer, request, outside, step}
-use Rattle.serial_rules.specs.Stream.{readerAfter, answers, Gives, rawOf}
+use Rattle.serial_rules.specs.Stream.{readerAfter, answers, First-answer, rawOf}
 use Rattle.serial_rules.proofs.Trip.{All, and-both}
-use Rattle.serial_rules.proofs.Fields.{fields-back, kind-back}
-use Rattle.serial_rules.proofs.Standing.{finished-good, raw-encoding}
+use Rattle.serial_rules.proofs.Fields.{code-listed, fields-back, kind-back}
+use Rattle.serial_rules.proofs.Sound.{Good, finished-good, raw-encoding}
 use Rattle.calls.specs.declared.Call.{Call}
 use Rattle.fields.specs.declared.Written.{Written}
 use Rattle.fields.specs.Promise.{number}
 use Rattle.fields.proofs.Wrote.{wrote, wrote-is, checks}
 use Rattle.calls.specs.Calls.{callOf}
 use Rattle.request_writer.specs.Promise.{Request-done}
-use Rattle.request_reader.specs.declared.Carrier.{Carrier}
+use Rattle.carrier.specs.declared.Carrier.{Carrier}
+use Rattle.carrier.specs.Carriers.{carrierOf}
 use Rattle.request_reader.specs.declared.Reader.{Reader}
 use Rattle.request_reader.specs.declared.Stepped.{Stepped}
-use Rattle.request_reader.specs.View.{carrierOf, answerOf, fresh, Step-done}
+use Rattle.request_reader.specs.View.{answerOf, fresh, Step-done}
+use Rattle.request.specs.declared.Asked.{Asked}
+use Rattle.request.specs.declared.RequestRead.{RequestRead}
+use Rattle.request.specs.declared.RequestRead.the-variants.{Fields, NoCall}
+use Rattle.request.specs.Promise.{fieldsIn, Request-read}
+use Rattle.request.proofs.Laws.{fields-are}
 use Rattle.request_reader.specs.Read.{Read}
 use Rattle.request_reader.proofs.Streams.{reads-request, as-ruled}
 
@@ -53,7 +60,7 @@ module _ (k : Carrier) (style : ℕ) (call : Call) (b t : List ℕ) {out left : 
   pub written-read : {lent end rest : List ℕ} {q : Reader} {gave : List Answer}
       → Request-done (carrierOf k) style call b t out r left → number r ≡ 0 → Read (fresh k) lent (wrote r left ++ rest) gave q end
       → (gave ≡ answers (carrierOf k) (outside false) (wrote r left ++ rest))
-      × Gives (carrierOf k) (outside false) (wrote r left ++ rest) (request style (codeOf (callOf call)) (bodyOf (callOf call) b t)) (outside false) rest
+      × First-answer (carrierOf k) (outside false) (wrote r left ++ rest) (request style (codeOf (callOf call)) (bodyOf (callOf call) b t)) (outside false) rest
       × (fieldsOf (codeOf (callOf call)) (bodyOf (callOf call) b t) ≡ fields (callOf call) b t)
   written-read {lent} {end} {rest} {q} {gave} d e reads =
       let p = passed (carrierOf k) style (callOf call) b t (length out) (sym (d .answer) ∙ e) in
@@ -63,25 +70,56 @@ module _ (k : Carrier) (style : ℕ) (call : Call) (b t : List ℕ) {out left : 
       (rw w (x .0), rw w (x .1), fields-back (callOf call) b t (p .fields-ok))
 
   -- and its kind comes out of its code and body
-  pub kind-written : Request-done (carrierOf k) style call b t out r left → number r ≡ 0 → kindIn (codeOf (callOf call)) (bodyOf (callOf call) b t) ≡ kindOf (callOf call)
+  pub kind-written : Request-done (carrierOf k) style call b t out r left → number r ≡ 0 → kindIn (codeOf (callOf call)) (bodyOf (callOf call) b t) ≡ known (kindOf (callOf call))
   kind-written d e = kind-back (callOf call) b t (passed (carrierOf k) style (callOf call) b t (length out) (sym (d .answer) ∙ e) .fields-ok)
 
--- Reading then writing. A request that a reader finished, at any place of any stream of bytes, is accepted by the writer wherever there is room for
--- it, and what the writer writes are the raw bytes of that request.
-pub read-written : {k : Carrier} {lent raw end left : List ℕ} {x : ℕ} {gave : List Answer} {q : Reader} {o : Stepped} {style code : ℕ} {body : List ℕ}
+  -- and `read_request` takes it apart into what was written
+  pub taken-apart : {asked : RequestRead} → Request-done (carrierOf k) style call b t out r left → number r ≡ 0
+      → Request-read (codeOf (callOf call)) (bodyOf (callOf call) b t) asked
+      → (f : Asked) × (asked ≡ Fields f) × (fieldsIn f (bodyOf (callOf call) b t) ≡ fields (callOf call) b t)
+  taken-apart {asked} d e w =
+      let p = passed (carrierOf k) style (callOf call) b t (length out) (sym (d .answer) ∙ e) in
+      apart asked w (fields-back (callOf call) b t (p .fields-ok))
+    where
+      apart : (asked : RequestRead) → Request-read (codeOf (callOf call)) (bodyOf (callOf call) b t) asked
+          → fieldsOf (codeOf (callOf call)) (bodyOf (callOf call) b t) ≡ fields (callOf call) b t
+          → (f : Asked) × (asked ≡ Fields f) × (fieldsIn f (bodyOf (callOf call) b t) ≡ fields (callOf call) b t)
+      apart NoCall unlisted is = absurd (true≢false (sym (code-listed (callOf call)) ∙ unlisted))
+      apart (Fields f) listed is = (f, refl, fields-are (listed .1) ∙ is)
+
+-- Reading then writing. A request that a reader finished, at any place of any stream of bytes, is taken apart by `read_request`, and what that gives
+-- is accepted by the writer wherever there is room for it; what the writer writes are the raw bytes of that request.
+pub record Request-again (carrier : rule.Carrier) (style code : ℕ) (body out : List ℕ) (asked : RequestRead) : Type 0 where
+  pub fields : Asked
+  pub is : asked ≡ Fields fields
+  pub again : {after : List ℕ} {r : Written} → Request-done carrier style (fields .call) (fieldsIn fields body .block) (fieldsIn fields body .text) out r after
+      → length (rawOf carrier (request style code body)) ≤ length out → (number r ≡ 0) × (wrote r after ≡ rawOf carrier (request style code body))
+
+pub read-written : {k : Carrier} {lent raw end left : List ℕ} {x : ℕ} {gave : List Answer} {q : Reader} {o : Stepped} {style code : ℕ} {body out : List ℕ} {asked : RequestRead}
     → All (λ (b : ℕ). b ≤ 255) raw → x ≤ 255 → Read (fresh k) lent raw gave q end → Step-done q end x o left → answerOf (o .answer) left ≡ request style code body
-    → (call : Call) {out after : List ℕ} {r : Written} → callOf call ≡ fieldsOf code body .call
-    → Request-done (carrierOf k) style call (fieldsOf code body .block) (fieldsOf code body .text) out r after
-    → length (rawOf (carrierOf k) (request style code body)) ≤ length out
-    → (number r ≡ 0) × (wrote r after ≡ rawOf (carrierOf k) (request style code body))
-read-written {k = k} {raw = raw} {x = x} {style = style} {code = code} {body = body} bytes h t d e call {out = out} {r = r} is w room =
+    → Request-read code body asked → Request-again (carrierOf k) style code body out asked
+read-written {k = k} {raw = raw} {x = x} {style = style} {code = code} {body = body} {out = out} {asked = asked} bytes h t d e w =
     let a = as-ruled t in
     let at : step (carrierOf k) (readerAfter (carrierOf k) (outside false) raw) x .answer ≡ request style code body =
     sym (ap₂ (λ (c : Carrier) (v : Ruled). step (carrierOf c) v x .answer) (a .carrier) (a .left)) ∙ sym (d .answer) ∙ e in
     let g = finished-good (carrierOf k) raw x style code body bytes h at in
-    let enc = raw-encoding (carrierOf k) style code body (g .fields-ok) in
-    let f = fieldsOf code body in
-    let fits : length (encodingOf (carrierOf k) style (callOf call) (f .block) (f .text)) ≤ length out = rw is (rw enc at room) in
-    let zero : number r ≡ 0 =
-    w .answer ∙ accepted (carrierOf k) style (callOf call) (f .block) (f .text) (length out) (g .fields-ok .short) (g .style-ok) (rw is (g .fields-ok .ok)) fits in
-    (zero, wrote-is w zero ∙ rw is (sym enc))
+    again asked w g
+  where
+    -- a finished request has a code of the table
+    again : (asked : RequestRead) → Request-read code body asked → Good (carrierOf k) style code body → Request-again (carrierOf k) style code body out asked
+    again NoCall unlisted g = absurd (true≢false (sym (subst (λ (n : ℕ). isCode n ≡ true) (g .fields-ok .code-is) (code-listed (fieldsOf code body .call))) ∙ unlisted))
+    again (Fields f) listed g =
+        let is = fields-are (listed .1) in
+        record {
+          fields = f;
+          is = refl;
+          again = λ {after} {r} w room.
+              let enc : rawOf (carrierOf k) (request style code body) ≡ encodingOf (carrierOf k) style (callOf (f .call)) (fieldsIn f body .block) (fieldsIn f body .text) =
+              raw-encoding (carrierOf k) style code body (g .fields-ok) ∙ ap (λ (z : Taken). encodingOf (carrierOf k) style (z .call) (z .block) (z .text)) (sym is) in
+              let ok = subst (λ (z : Taken). callOk (z .call) (z .block) (z .text) ≡ true) (sym is) (g .fields-ok .ok) in
+              let short = subst (λ (z : Taken). length (z .text) ≤ 255) (sym is) (g .fields-ok .short) in
+              let fits = subst (λ (l : List ℕ). length l ≤ length out) enc room in
+              let zero : number r ≡ 0 =
+              w .answer ∙ accepted (carrierOf k) style (callOf (f .call)) (fieldsIn f body .block) (fieldsIn f body .text) (length out) short (g .style-ok) ok fits in
+              (zero, wrote-is w zero ∙ sym enc);
+        }

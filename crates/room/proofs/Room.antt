@@ -8,6 +8,8 @@ use mathlib.Core.List.{List, _++_}
 use borrow.Author.Tests.{lt-ltb, le-ltb, lt-leb, le-leb, ltb-true, ltb-false, leb-true, leb-false}
 use lib.Dec.{leb, ltb}
 use lib.ListN.{length, length-append}
+use Rattle.carrier.specs.declared.Carrier.{Carrier}
+use Rattle.carrier.specs.declared.Carrier.the-variants.{Parallel}
 use Rattle.room.specs.declared.Left.{Left}
 use Rattle.room.specs.declared.Left.the-variants.{Room, Short}
 use Rattle.room.specs.Carriers.{coded, addedOn}
@@ -15,14 +17,14 @@ use Rattle.room.specs.Room.{leftOf}
 use Rattle.room.proofs.Coded.{plain-parallel, coded-length, coded-most, pair-length}
 
 -- Data bytes take their length and the bytes that the carrier adds.
-module _ (flag : Bool) (l : List ℕ) {room n : ℕ} where
-  pub short : n ≡ addedOn flag l → room < length l + n → Short ≡ leftOf (length (coded flag l)) (Room room)
+module _ (carrier : Carrier) (l : List ℕ) {room n : ℕ} where
+  pub short : n ≡ addedOn carrier l → room < length l + n → Short ≡ leftOf (length (coded carrier l)) (Room room)
   unfolding leftOf
-  short e h = rw (coded-length flag l, ← e, lt-ltb _ _ h)
+  short e h = rw (coded-length carrier l, ← e, lt-ltb _ _ h)
 
-  pub spare : n ≡ addedOn flag l → length l + n ≤ room → Room (room - length l - n) ≡ leftOf (length (coded flag l)) (Room room)
+  pub spare : n ≡ addedOn carrier l → length l + n ≤ room → Room (room - length l - n) ≡ leftOf (length (coded carrier l)) (Room room)
   unfolding leftOf
-  spare e h = let d : room - length l - n ≡ room - (length l + n) = omega arith in rw (coded-length flag l, ← e, le-ltb _ _ h, d)
+  spare e h = let d : room - length l - n ≡ room - (length l + n) = omega arith in rw (coded-length carrier l, ← e, le-ltb _ _ h, d)
 
 pub none-left : (n : ℕ) → Short ≡ leftOf n Short
 unfolding leftOf
@@ -66,37 +68,37 @@ fits-none n room e = go (ltb room n) refl e
     go false p q = let z : _≡_ {A = ℕ} 0 1 = cc in absurd (omega arith)
 
 -- Four fields fit where they, one after another, leave some of the room.
-module _ (flag : Bool) (a b c d : List ℕ) (room : ℕ) {p q r s : Left} where
-  fields-left : p ≡ leftOf (length (coded flag a)) (Room room) → q ≡ leftOf (length (coded flag b)) p → r ≡ leftOf (length (coded flag c)) q
-      → s ≡ leftOf (length (coded flag d)) r → s ≡ leftOf (length (coded flag (a ++ (b ++ (c ++ d))))) (Room room)
+module _ (carrier : Carrier) (a b c d : List ℕ) (room : ℕ) {p q r s : Left} where
+  fields-left : p ≡ leftOf (length (coded carrier a)) (Room room) → q ≡ leftOf (length (coded carrier b)) p → r ≡ leftOf (length (coded carrier c)) q
+      → s ≡ leftOf (length (coded carrier d)) r → s ≡ leftOf (length (coded carrier (a ++ (b ++ (c ++ d))))) (Room room)
   fields-left w x y z = z ∙ simp (y, x, w, left-left, pair-length, add-assoc)
 
-  pub fits : {left : ℕ} → p ≡ leftOf (length (coded flag a)) (Room room) → q ≡ leftOf (length (coded flag b)) p → r ≡ leftOf (length (coded flag c)) q
-      → s ≡ leftOf (length (coded flag d)) r → s ≡ Room left → true ≡ leb (length (coded flag (a ++ (b ++ (c ++ d))))) room
+  pub fits : {left : ℕ} → p ≡ leftOf (length (coded carrier a)) (Room room) → q ≡ leftOf (length (coded carrier b)) p → r ≡ leftOf (length (coded carrier c)) q
+      → s ≡ leftOf (length (coded carrier d)) r → s ≡ Room left → true ≡ leb (length (coded carrier (a ++ (b ++ (c ++ d))))) room
   fits w x y z e = fits-left _ room _ (sym e ∙ fields-left w x y z)
 
-  pub too-much : p ≡ leftOf (length (coded flag a)) (Room room) → q ≡ leftOf (length (coded flag b)) p → r ≡ leftOf (length (coded flag c)) q
-      → s ≡ leftOf (length (coded flag d)) r → s ≡ Short → false ≡ leb (length (coded flag (a ++ (b ++ (c ++ d))))) room
+  pub too-much : p ≡ leftOf (length (coded carrier a)) (Room room) → q ≡ leftOf (length (coded carrier b)) p → r ≡ leftOf (length (coded carrier c)) q
+      → s ≡ leftOf (length (coded carrier d)) r → s ≡ Short → false ≡ leb (length (coded carrier (a ++ (b ++ (c ++ d))))) room
   too-much w x y z e = fits-none _ room (sym e ∙ fields-left w x y z)
 
-whole : (flag : Bool) (h l : List ℕ) → length (h ++ coded flag l) ≡ length h + length (coded flag l)
-whole flag h l = rw length-append
+whole : (carrier : Carrier) (h l : List ℕ) → length (h ++ coded carrier l) ≡ length h + length (coded carrier l)
+whole carrier h l = rw length-append
 
 -- The whole fits where the heading does and the data bytes fit into what it leaves; they do where that has room for all of them doubled.
-module _ (flag : Bool) (h l : List ℕ) {room : ℕ} where
-  pub no-heading : room < length h → false ≡ leb (length (h ++ coded flag l)) room
-  no-heading less = sym (lt-leb (length (h ++ coded flag l)) room (omega (arith, whole flag h l)))
+module _ (carrier : Carrier) (h l : List ℕ) {room : ℕ} where
+  pub no-heading : room < length h → false ≡ leb (length (h ++ coded carrier l)) room
+  no-heading less = sym (lt-leb (length (h ++ coded carrier l)) room (omega (arith, whole carrier h l)))
 
-  pub doubled : {half : Bool} → length h ≤ room → half ≡ leb (length (coded false l)) ((room - length h) / 2) → half ≡ true
-      → true ≡ leb (length (h ++ coded flag l)) room
+  pub doubled : {half : Bool} → length h ≤ room → half ≡ leb (length (coded Parallel l)) ((room - length h) / 2) → half ≡ true
+      → true ≡ leb (length (h ++ coded carrier l)) room
   doubled le e is =
       let a = leb-true (length l) ((room - length h) / 2) (rw (plain-parallel l) at (sym e ∙ is)) in
       let d = div-add-mod' (room - length h) 2 in
-      sym (le-leb (length (h ++ coded flag l)) room (omega (arith, whole flag h l, a, d, coded-most flag l)))
+      sym (le-leb (length (h ++ coded carrier l)) room (omega (arith, whole carrier h l, a, d, coded-most carrier l)))
 
-  pub behind : {fit : Bool} → length h ≤ room → fit ≡ leb (length (coded flag l)) (room - length h) → fit ≡ leb (length (h ++ coded flag l)) room
+  pub behind : {fit : Bool} → length h ≤ room → fit ≡ leb (length (coded carrier l)) (room - length h) → fit ≡ leb (length (h ++ coded carrier l)) room
   behind {fit} le e = go fit (sym e)
     where
-      go : (t : Bool) → leb (length (coded flag l)) (room - length h) ≡ t → t ≡ leb (length (h ++ coded flag l)) room
-      go true p = sym (le-leb (length (h ++ coded flag l)) room (omega (arith, whole flag h l, leb-true (length (coded flag l)) (room - length h) p)))
-      go false p = sym (lt-leb (length (h ++ coded flag l)) room (omega (arith, whole flag h l, leb-false (length (coded flag l)) (room - length h) p)))
+      go : (t : Bool) → leb (length (coded carrier l)) (room - length h) ≡ t → t ≡ leb (length (h ++ coded carrier l)) room
+      go true p = sym (le-leb (length (h ++ coded carrier l)) room (omega (arith, whole carrier h l, leb-true (length (coded carrier l)) (room - length h) p)))
+      go false p = sym (lt-leb (length (h ++ coded carrier l)) room (omega (arith, whole carrier h l, leb-false (length (coded carrier l)) (room - length h) p)))

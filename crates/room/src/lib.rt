@@ -1,4 +1,5 @@
 // Whether a heading and fields of data bytes fit into so many raw bytes.
+use carrier::Carrier;
 ghost use mathlib.Core.Path.{_≡_};
 ghost use mathlib.Core.List.{_++_};
 ghost use lib.Dec.{leb};
@@ -15,7 +16,7 @@ enum Left {
 // Whether a heading and four fields fit into `room` bytes: on the serial lead each escape byte doubled, on the parallel side as they are. The
 // escape bytes are counted only where all fields doubled would not fit.
 pub fn parts_fit(
-    serial: bool,
+    carrier: Carrier,
     heading: &[u8],
     first: &[u8],
     second: &[u8],
@@ -23,41 +24,41 @@ pub fn parts_fit(
     fourth: &[u8],
     room: usize,
 ) -> bool
-    ensures { λ r. ⌜ r ≡ leb (length (partsRaw serial (now (heading .entry)) (now (first .entry)) (now (second .entry)) (now (third .entry)) (now (fourth .entry)))) room ⌝ }
+    ensures { λ r. ⌜ r ≡ leb (length (partsRaw carrier (now (heading .entry)) (now (first .entry)) (now (second .entry)) (now (third .entry)) (now (fourth .entry)))) room ⌝ }
 {
     if room < heading.len() {
         return false;
     }
     let spare = room - heading.len();
-    if fields_fit(false, first, second, third, fourth, spare / 2) {
+    if fields_fit(Carrier::Parallel, first, second, third, fourth, spare / 2) {
         return true;
     }
-    fields_fit(serial, first, second, third, fourth, spare)
+    fields_fit(carrier, first, second, third, fourth, spare)
 }
 
 // Whether four fields fit into `room` bytes. What is left of the room is counted down, so that no sum overflows.
-pub fn fields_fit(
-    serial: bool,
+fn fields_fit(
+    carrier: Carrier,
     first: &[u8],
     second: &[u8],
     third: &[u8],
     fourth: &[u8],
     room: usize,
 ) -> bool
-    ensures { λ r. ⌜ r ≡ leb (length (coded serial (now (first .entry) ++ (now (second .entry) ++ (now (third .entry) ++ now (fourth .entry)))))) room ⌝ }
+    ensures { λ r. ⌜ r ≡ leb (length (coded carrier (now (first .entry) ++ (now (second .entry) ++ (now (third .entry) ++ now (fourth .entry)))))) room ⌝ }
 {
-    let for_three = left_after(serial, first, Left::Room(room));
-    let for_two = left_after(serial, second, for_three);
-    let for_fourth = left_after(serial, third, for_two);
-    match left_after(serial, fourth, for_fourth) {
+    let for_three = left_after(carrier, first, Left::Room(room));
+    let for_two = left_after(carrier, second, for_three);
+    let for_fourth = left_after(carrier, third, for_two);
+    match left_after(carrier, fourth, for_fourth) {
         Left::Room(_) => true,
         Left::Short => false,
     }
 }
 
 // What data bytes leave of the room.
-fn left_after(serial: bool, bytes: &[u8], left: Left) -> Left
-    ensures { λ r. ⌜ r ≡ leftOf (length (coded serial (now (bytes .entry)))) left ⌝ }
+fn left_after(carrier: Carrier, bytes: &[u8], left: Left) -> Left
+    ensures { λ r. ⌜ r ≡ leftOf (length (coded carrier (now (bytes .entry)))) left ⌝ }
 {
     let Left::Room(room) = left else {
         return Left::Short;
@@ -66,7 +67,7 @@ fn left_after(serial: bool, bytes: &[u8], left: Left) -> Left
         return Left::Short;
     }
     let spare = room - bytes.len();
-    let n = added(serial, bytes);
+    let n = added(carrier, bytes);
     if spare < n {
         return Left::Short;
     }
@@ -74,11 +75,11 @@ fn left_after(serial: bool, bytes: &[u8], left: Left) -> Left
 }
 
 // How many bytes the carrier adds to data bytes: on the serial lead one for each escape byte.
-fn added(serial: bool, bytes: &[u8]) -> usize
-    ensures { λ r. ⌜ r ≡ addedOn serial (now (bytes .entry)) ⌝ }
+fn added(carrier: Carrier, bytes: &[u8]) -> usize
+    ensures { λ r. ⌜ r ≡ addedOn carrier (now (bytes .entry)) ⌝ }
 {
-    if serial {
-        return escape::count_escapes(bytes);
+    match carrier {
+        Carrier::Serial => escape::count_escapes(bytes),
+        Carrier::Parallel => 0,
     }
-    0
 }

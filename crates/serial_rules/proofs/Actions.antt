@@ -3,27 +3,27 @@ use Prim.Native.Nat.{ℕ}
 use mathlib.Core.Path.{_≡_, refl, sym, ap, _∙_}
 use mathlib.Core.Bool.{true}
 use mathlib.Core.List.{List, [], _∷_, _++_, map, append-assoc}
-use Rattle.serial_rules.specs.Link.{needMore, within, Frame, idleFrame, Standing, halted, holds, meets, Link, stopped, live, linkAt, fresh, failure}
-use Rattle.serial_rules.specs.Session.{Input, Told, report, toldBy, nextBy, tells, linkAfter, Sign, token, signs, layerAfter, saidBy, standsBy, says, standsAfter, movers, woven, Part, byte, begun, state, event, address, error, good, allGood, inputsOf, inputs, signOf, fill, behind, spread, withoutActions, rest, Actions-pass, Error-ends}
+use Rattle.serial_rules.specs.Link.{needMore, underway, Frame, idleFrame, Standing, halted, holds, meets, Link, stopped, live, linkAt, fresh, failure}
+use Rattle.serial_rules.specs.Session.{Input, Told, report, toldBy, nextBy, tells, linkAfter, Sign, token, signs, layerAfter, saidBy, standsBy, says, standsAfter, movers, woven, Part, byte, begun, state, event, address, error, good, allGood, inputsOf, inputs, signOf, fill, behind, spread, withoutActions, between, Actions-pass, Error-ends}
 use Rattle.serial_rules.proofs.Trip.{and-both}
 use Rattle.serial_rules.proofs.Session.{layers-told, layers-after, halted-stays, movers-move, weave}
 use Rattle.serial_rules.proofs.Parts.{part-signs, part-after}
 
 -- need-more leaves the reply as it is
-pub within-said : (f : Frame) (s : List Input) (l : List Sign) → says (holds f) (fill (token within) s ++ l) ≡ fill (report needMore) s ++ says (holds f) l
+pub underway-said : (f : Frame) (s : List Input) (l : List Sign) → says (holds f) (fill (token underway) s ++ l) ≡ fill (report needMore) s ++ says (holds f) l
 unfolding says meets
-within-said f [] l = refl
-within-said f (i ∷ s) l = ap (λ (w : List Told). report needMore ∷ w) (within-said f s l)
+underway-said f [] l = refl
+underway-said f (i ∷ s) l = ap (λ (w : List Told). report needMore ∷ w) (underway-said f s l)
 
-within-stands : (S : Standing) (s : List Input) (l : List Sign) → standsAfter S (fill (token within) s ++ l) ≡ standsAfter S l
+underway-stands : (S : Standing) (s : List Input) (l : List Sign) → standsAfter S (fill (token underway) s ++ l) ≡ standsAfter S l
 unfolding standsAfter meets
-within-stands S [] l = refl
-within-stands halted (i ∷ s) l = within-stands halted s l
-within-stands (holds f) (i ∷ s) l = within-stands (holds f) s l
+underway-stands S [] l = refl
+underway-stands halted (i ∷ s) l = underway-stands halted s l
+underway-stands (holds f) (i ∷ s) l = underway-stands (holds f) s l
 
 -- the parts of a stream, each as one sign
 parts-said : (S : Standing) (ps : List Part) → allGood ps ≡ true → (standsAfter S (map signOf ps) ≡ halted → ⊥)
-    → says S (signs rest (inputs ps)) ≡ spread ps (says S (map signOf ps))
+    → says S (signs between (inputs ps)) ≡ spread ps (says S (map signOf ps))
 unfolding allGood inputs signs says spread standsAfter
 parts-said S [] g h = refl
 parts-said halted (p ∷ ps) g h = absurd (h (halted-stays (map signOf ps)))
@@ -31,25 +31,25 @@ parts-said (holds f) (p ∷ ps) g h =
     let k = and-both (good p) (allGood ps) g in
     let q = behind (inputsOf p) in
     ap (says (holds f)) (part-signs p (inputs ps) (k .0))
-    ∙ within-said f q (signOf p ∷ signs rest (inputs ps))
+    ∙ underway-said f q (signOf p ∷ signs between (inputs ps))
     ∙ ap (λ (w : List Told). fill (report needMore) q ++ (saidBy (holds f) (signOf p) ∷ w)) (parts-said (standsBy (holds f) (signOf p)) ps (k .1) h)
 
-parts-stand : (S : Standing) (ps : List Part) → allGood ps ≡ true → standsAfter S (signs rest (inputs ps)) ≡ standsAfter S (map signOf ps)
+parts-stand : (S : Standing) (ps : List Part) → allGood ps ≡ true → standsAfter S (signs between (inputs ps)) ≡ standsAfter S (map signOf ps)
 unfolding allGood inputs signs standsAfter
 parts-stand S [] g = refl
 parts-stand S (p ∷ ps) g =
     let k = and-both (good p) (allGood ps) g in
     ap (standsAfter S) (part-signs p (inputs ps) (k .0))
-    ∙ within-stands S (behind (inputsOf p)) (signOf p ∷ signs rest (inputs ps))
+    ∙ underway-stands S (behind (inputsOf p)) (signOf p ∷ signs between (inputs ps))
     ∙ parts-stand (standsBy S (signOf p)) ps (k .1)
 
-parts-rest : (ps : List Part) → allGood ps ≡ true → layerAfter rest (inputs ps) ≡ rest
+parts-between : (ps : List Part) → allGood ps ≡ true → layerAfter between (inputs ps) ≡ between
 unfolding allGood inputs layerAfter
-parts-rest [] g = refl
-parts-rest (p ∷ ps) g = let k = and-both (good p) (allGood ps) g in part-after p (inputs ps) (k .0) ∙ parts-rest ps (k .1)
+parts-between [] g = refl
+parts-between (p ∷ ps) g = let k = and-both (good p) (allGood ps) g in part-after p (inputs ps) (k .0) ∙ parts-between ps (k .1)
 
-parts-left : (S : Standing) (ps : List Part) → allGood ps ≡ true → linkAfter (linkAt rest S) (inputs ps) ≡ linkAt rest (standsAfter S (map signOf ps))
-parts-left S ps g = layers-after rest S (inputs ps) ∙ rw (parts-rest ps g, parts-stand S ps g) refl
+parts-left : (S : Standing) (ps : List Part) → allGood ps ≡ true → linkAfter (linkAt between S) (inputs ps) ≡ linkAt between (standsAfter S (map signOf ps))
+parts-left S ps g = layers-after between S (inputs ps) ∙ rw (parts-between ps g, parts-stand S ps g) refl
 
 -- what is left of good parts is good, and its signs are the movers
 plain-good : (ps : List Part) → allGood ps ≡ true → allGood (withoutActions ps) ≡ true
@@ -72,20 +72,20 @@ plain-signs (event m y x a ∷ ps) = plain-signs ps
 plain-signs (address m b3 b2 b1 b0 ∷ ps) = plain-signs ps
 plain-signs (error n t ∷ ps) = ap (λ (l : List Sign). signOf (error n t) ∷ l) (plain-signs ps)
 
-pub actions-pass : (f : Frame) (ps : List Part) → allGood ps ≡ true → (linkAfter (live rest f) (inputs (withoutActions ps)) ≡ stopped → ⊥) → Actions-pass f ps
+pub actions-pass : (f : Frame) (ps : List Part) → allGood ps ≡ true → (linkAfter (live between f) (inputs (withoutActions ps)) ≡ stopped → ⊥) → Actions-pass f ps
 actions-pass f ps g h =
     let plain = withoutActions ps in
     let q = plain-good ps g in
     let same : standsAfter (holds f) (map signOf ps) ≡ standsAfter (holds f) (map signOf plain) = movers-move (holds f) (map signOf ps) ∙ ap (standsAfter (holds f)) (plain-signs ps) in
-    let up : standsAfter (holds f) (map signOf plain) ≡ halted → ⊥ = λ e. h (parts-left (holds f) plain q ∙ ap (linkAt rest) e) in
+    let up : standsAfter (holds f) (map signOf plain) ≡ halted → ⊥ = λ e. h (parts-left (holds f) plain q ∙ ap (linkAt between) e) in
     let on : standsAfter (holds f) (map signOf ps) ≡ halted → ⊥ = λ e. up (sym same ∙ e) in
     record {
       told =
-          layers-told rest (holds f) (inputs ps)
+          layers-told between (holds f) (inputs ps)
           ∙ parts-said (holds f) ps g on
           ∙ ap (spread ps) (weave (holds f) (map signOf ps) on ∙ ap (λ (l : List Sign). woven (map signOf ps) (says (holds f) l)) (plain-signs ps));
-      plain = layers-told rest (holds f) (inputs plain) ∙ parts-said (holds f) plain q up;
-      left = parts-left (holds f) ps g ∙ ap (linkAt rest) same ∙ sym (parts-left (holds f) plain q);
+      plain = layers-told between (holds f) (inputs plain) ∙ parts-said (holds f) plain q up;
+      left = parts-left (holds f) ps g ∙ ap (linkAt between) same ∙ sym (parts-left (holds f) plain q);
     }
 
 -- joined streams
@@ -106,32 +106,32 @@ inputs-append (p ∷ ps) qs = ap (λ (l : List Input). inputsOf p ++ l) (inputs-
 
 -- an error, whatever waits
 error-told : (f : Frame) (n : ℕ) (t : List ℕ) (i : List Input) → good (error n t) ≡ true
-    → tells (live rest f) (inputsOf (error n t) ++ i) ≡ fill (report needMore) (behind (inputsOf (error n t))) ++ (report (failure n t) ∷ tells fresh i)
+    → tells (live between f) (inputsOf (error n t) ++ i) ≡ fill (report needMore) (behind (inputsOf (error n t))) ++ (report (failure n t) ∷ tells fresh i)
 unfolding says meets
 error-told f n t i g =
     let q = behind (inputsOf (error n t)) in
-    layers-told rest (holds f) (inputsOf (error n t) ++ i)
+    layers-told between (holds f) (inputsOf (error n t) ++ i)
     ∙ ap (says (holds f)) (part-signs (error n t) i g)
-    ∙ within-said f q (signOf (error n t) ∷ signs rest i)
-    ∙ ap (λ (w : List Told). fill (report needMore) q ++ (report (failure n t) ∷ w)) (sym (layers-told rest (holds idleFrame) i))
+    ∙ underway-said f q (signOf (error n t) ∷ signs between i)
+    ∙ ap (λ (w : List Told). fill (report needMore) q ++ (report (failure n t) ∷ w)) (sym (layers-told between (holds idleFrame) i))
 
-error-left : (f : Frame) (n : ℕ) (t : List ℕ) (i : List Input) → good (error n t) ≡ true → linkAfter (live rest f) (inputsOf (error n t) ++ i) ≡ linkAfter fresh i
+error-left : (f : Frame) (n : ℕ) (t : List ℕ) (i : List Input) → good (error n t) ≡ true → linkAfter (live between f) (inputsOf (error n t) ++ i) ≡ linkAfter fresh i
 unfolding standsAfter meets
 error-left f n t i g =
-    layers-after rest (holds f) (inputsOf (error n t) ++ i)
-    ∙ rw (part-after (error n t) i g, part-signs (error n t) i g, within-stands (holds f) (behind (inputsOf (error n t))) (signOf (error n t) ∷ signs rest i)) (sym (layers-after rest (holds idleFrame) i))
+    layers-after between (holds f) (inputsOf (error n t) ++ i)
+    ∙ rw (part-after (error n t) i g, part-signs (error n t) i g, underway-stands (holds f) (behind (inputsOf (error n t))) (signOf (error n t) ∷ signs between i)) (sym (layers-after between (holds idleFrame) i))
 
 -- on good parts a link that is not stopped is between two of them
-parts-live : (f : Frame) (ps : List Part) → allGood ps ≡ true → (linkAfter (live rest f) (inputs ps) ≡ stopped → ⊥)
-    → (e : Frame) × (linkAfter (live rest f) (inputs ps) ≡ live rest e)
+parts-live : (f : Frame) (ps : List Part) → allGood ps ≡ true → (linkAfter (live between f) (inputs ps) ≡ stopped → ⊥)
+    → (e : Frame) × (linkAfter (live between f) (inputs ps) ≡ live between e)
 parts-live f ps g h = go (standsAfter (holds f) (map signOf ps)) refl
   where
-    go : (S : Standing) → standsAfter (holds f) (map signOf ps) ≡ S → (e : Frame) × (linkAfter (live rest f) (inputs ps) ≡ live rest e)
-    go halted e = absurd (h (parts-left (holds f) ps g ∙ ap (linkAt rest) e))
-    go (holds x) e = (x, parts-left (holds f) ps g ∙ ap (linkAt rest) e)
+    go : (S : Standing) → standsAfter (holds f) (map signOf ps) ≡ S → (e : Frame) × (linkAfter (live between f) (inputs ps) ≡ live between e)
+    go halted e = absurd (h (parts-left (holds f) ps g ∙ ap (linkAt between) e))
+    go (holds x) e = (x, parts-left (holds f) ps g ∙ ap (linkAt between) e)
 
 pub error-ends-call : (f : Frame) (ps : List Part) (n : ℕ) (t : List ℕ) (qs : List Part) → allGood ps ≡ true → good (error n t) ≡ true
-    → (linkAfter (live rest f) (inputs ps) ≡ stopped → ⊥) → Error-ends f ps n t qs
+    → (linkAfter (live between f) (inputs ps) ≡ stopped → ⊥) → Error-ends f ps n t qs
 unfolding inputs
 error-ends-call f ps n t qs k g h =
     let i = inputs ps in
@@ -139,13 +139,13 @@ error-ends-call f ps n t qs k g h =
     let e = parts-live f ps k h in
     record {
       told =
-          ap (tells (live rest f)) (inputs-append ps (error n t ∷ qs))
-          ∙ tells-append (live rest f) i j
-          ∙ ap (λ (l : Link). tells (live rest f) i ++ tells l j) (e .1)
-          ∙ ap (λ (w : List Told). tells (live rest f) i ++ w) (error-told (e .0) n t (inputs qs) g);
+          ap (tells (live between f)) (inputs-append ps (error n t ∷ qs))
+          ∙ tells-append (live between f) i j
+          ∙ ap (λ (l : Link). tells (live between f) i ++ tells l j) (e .1)
+          ∙ ap (λ (w : List Told). tells (live between f) i ++ w) (error-told (e .0) n t (inputs qs) g);
       left =
-          ap (linkAfter (live rest f)) (inputs-append ps (error n t ∷ qs))
-          ∙ left-append (live rest f) i j
+          ap (linkAfter (live between f)) (inputs-append ps (error n t ∷ qs))
+          ∙ left-append (live between f) i j
           ∙ ap (λ (l : Link). linkAfter l j) (e .1)
           ∙ error-left (e .0) n t (inputs qs) g;
     }

@@ -5,15 +5,16 @@ use Rattle.serial_rules.specs.Marks.{startsRequest, inwardClass}
 use Rattle.serial_rules.specs.Body.{ended, bodyTurn}
 use Rattle.serial_rules.specs.Reader.{step}
 use Rattle.serial_rules.specs.Stream.{feed}
-use Rattle.serial_rules.specs.Reply.{kindIn, shapeTurn, replyRead}
+use Rattle.serial_rules.specs.Reply.{shapeTurn, replyRead}
+use Rattle.serial_rules.specs.Fields.{fieldsOf, askedBy}
 use Rattle.serial_rules.specs.Link as link
 use Rattle.serial_rules.specs.Session.{tells}
 use Rattle.serial_rules.specs.Cases.{worked, cases, replyWorked, replyCases}
 
 pub every-case : map worked cases ≡ cases
-unfolding startsRequest ended bodyTurn step feed worked cases
+unfolding startsRequest ended bodyTurn step feed fieldsOf askedBy worked cases
 every-case = refl
 
 pub every-reply : map replyWorked replyCases ≡ replyCases
-unfolding inwardClass kindIn shapeTurn replyRead link.markOutside link.look link.meets link.step link.enters link.begin tells replyWorked replyCases
+unfolding inwardClass fieldsOf shapeTurn replyRead link.markOutside link.look link.meets link.step link.enters link.begin tells replyWorked replyCases
 every-reply = refl

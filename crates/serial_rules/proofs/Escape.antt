@@ -17,7 +17,7 @@ pub escaped-one : (b : ℕ) → escaped (b ∷ []) ≡ escapedByte b
 unfolding escaped
 escaped-one b = append-nil (escapedByte b)
 
--- "N data bytes take exactly N plus the number of &9B among them", "at least N and at most 2N"
+-- "exactly N plus the number of &9B among them", "at least N and at most 2N"
 byte-length : (x : ℕ) → length (escapedByte x) ≡ 1 + cond (eqb x escape) 1 0
 byte-length x = go (eqb x escape)
   where

@@ -9,9 +9,9 @@ use lib.ListN.{length, take, length-append}
 use lib.Seq.{take-at, drop-at, getD-at}
 use borrow.Author.Tests.{eqb-true, not-true}
 use Rattle.serial_rules.specs.Call.{Call, osrdch, oscli, osbyteLow, osbyteHigh, osword, osword0, osargs, osbget, osbput, osfindClose, osfindOpen, osfile, osgbpb, codeOf, bodyOf, return, numbersOk, blockOk, hasString, hasReturn, callOk}
-use Rattle.serial_rules.specs.Fields.{fields, last, fieldsOf}
-use Rattle.serial_rules.specs.Reply as reply
-use Rattle.serial_rules.specs.Reply.{kindOf, kindIn}
+use Rattle.serial_rules.specs.Fields.{fields, last, fieldsOf, asks, askedBy}
+use Rattle.serial_rules.specs.Marks.{isCode}
+use Rattle.serial_rules.specs.Reply.{kindOf, known, kindIn}
 use Rattle.serial_rules.proofs.Trip.{and-both}
 
 -- a call without a block or a string has an empty one beside it
@@ -81,19 +81,28 @@ fields-back (osgbpb a) b t h =
     let thirteen = eqb-true (length b) 13 (p .block) in
     rw (getD-at b a [] 0 13 thirteen, take-at b (a ∷ []) 13 thirteen, none t (p .text))
 
--- the kind of a request that was written comes out of its code and body
-pub kind-back : (call : Call) (b t : List ℕ) → callOk call b t ≡ true → kindIn (codeOf call) (bodyOf call b t) ≡ kindOf call
-unfolding codeOf bodyOf kindIn
-kind-back osrdch b t h = refl
-kind-back oscli b t h = refl
-kind-back (osbyteLow x a) b t h = refl
-kind-back (osbyteHigh x y a) b t h = refl
-kind-back (osword a out) b t h = ap reply.osword (last-is (a ∷ length b ∷ b) out)
-kind-back osword0 b t h = refl
-kind-back (osargs y a) b t h = refl
-kind-back (osbget y) b t h = refl
-kind-back (osbput y a) b t h = refl
-kind-back (osfindClose y) b t h = refl
-kind-back (osfindOpen a) b t h = let p = parts (osfindOpen a) b t h in rw (not-true (eqb a 0) (p .numbers))
-kind-back (osfile a) b t h = refl
-kind-back (osgbpb a) b t h = refl
+-- every call has a code of the table
+pub code-listed : (call : Call) → isCode (codeOf call) ≡ true
+unfolding codeOf
+code-listed osrdch = refl
+code-listed oscli = refl
+code-listed (osbyteLow x a) = refl
+code-listed (osbyteHigh x y a) = refl
+code-listed (osword a out) = refl
+code-listed osword0 = refl
+code-listed (osargs y a) = refl
+code-listed (osbget y) = refl
+code-listed (osbput y a) = refl
+code-listed (osfindClose y) = refl
+code-listed (osfindOpen a) = refl
+code-listed (osfile a) = refl
+code-listed (osgbpb a) = refl
+
+-- what a request that was written asks, and its kind, come out of its code and body
+pub asked-back : (call : Call) (b t : List ℕ) → callOk call b t ≡ true → askedBy (codeOf call) (bodyOf call b t) ≡ asks (fields call b t)
+unfolding askedBy
+asked-back call b t h = rw (code-listed call, fields-back call b t h)
+
+pub kind-back : (call : Call) (b t : List ℕ) → callOk call b t ≡ true → kindIn (codeOf call) (bodyOf call b t) ≡ known (kindOf call)
+unfolding kindIn
+kind-back call b t h = rw (code-listed call, fields-back call b t h)

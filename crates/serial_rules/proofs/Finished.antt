@@ -115,7 +115,7 @@ no-return [] a = refl
 no-return (x ∷ t) a = rw (a .0) (no-return t (a .1))
 
 -- What is to be shown of a finished body.
-pub record Rewritten (code : ℕ) (body : List ℕ) : Type 0 where
+pub record Request-rewritten (code : ℕ) (body : List ℕ) : Type 0 where
   pub code-is : codeOf (fieldsOf code body .call) ≡ code
   pub body-is : bodyOf (fieldsOf code body .call) (fieldsOf code body .block) (fieldsOf code body .text) ≡ body
   pub ok : callOk (fieldsOf code body .call) (fieldsOf code body .block) (fieldsOf code body .text) ≡ true
@@ -131,7 +131,7 @@ fixed-long code last w rule g = go w (ends-of w) g
 
 -- it is the body of some call whose fields keep their rules
 by-call : (code : ℕ) (body : List ℕ) (call : Call) (b t : List ℕ) → codeOf call ≡ code → bodyOf call b t ≡ body → callOk call b t ≡ true → length t ≤ 255
-    → Rewritten code body
+    → Request-rewritten code body
 by-call code body call b t c e ok short =
     let f : fieldsOf code body ≡ fields call b t = rw (← c, ← e) (fields-back call b t ok) in
     record {
@@ -141,7 +141,7 @@ by-call code body call b t c e ok short =
       short = rw f short;
     }
 
-cli-back : (body : List ℕ) → Whole 0x02 body → Rewritten 0x02 body
+cli-back : (body : List ℕ) → Whole 0x02 body → Request-rewritten 0x02 body
 unfolding bodyTurn codeOf bodyOf callOk
 cli-back body w =
     let t = w .init in
@@ -172,7 +172,7 @@ first-of : (l : List ℕ) (n : ℕ) → length l ≡ suc n → l ≡ getD l 0 0 
 first-of [] n h = absurd (omega arith)
 first-of (x ∷ l) n h = refl
 
-low-back : (body : List ℕ) → Whole 0x04 body → Rewritten 0x04 body
+low-back : (body : List ℕ) → Whole 0x04 body → Request-rewritten 0x04 body
 unfolding bodyTurn codeOf bodyOf callOk hasReturn
 low-back body w =
     let c = checked-done (length (w .init)) 1 (ltb (w .last) 0x80) (w .ends) in
@@ -180,7 +180,7 @@ low-back body w =
     by-call 0x04 body (osbyteLow (getD (w .init) 0 0) (w .last)) [] [] refl
     (ap (λ (l : List ℕ). l ++ (w .last ∷ [])) (sym (one-long (w .init) n)) ∙ w .joined) (rw (c .1)) (omega arith)
 
-high-back : (body : List ℕ) → Whole 0x06 body → Rewritten 0x06 body
+high-back : (body : List ℕ) → Whole 0x06 body → Request-rewritten 0x06 body
 unfolding bodyTurn codeOf bodyOf callOk hasReturn
 high-back body w =
     let c = checked-done (length (w .init)) 2 (leb 0x80 (w .last)) (w .ends) in
@@ -188,14 +188,14 @@ high-back body w =
     by-call 0x06 body (osbyteHigh (getD (w .init) 0 0) (getD (w .init) 1 0) (w .last)) [] [] refl
     (ap (λ (l : List ℕ). l ++ (w .last ∷ [])) (sym (two-long (w .init) n)) ∙ w .joined) (rw (c .1)) (omega arith)
 
-line-back : (body : List ℕ) → Whole 0x0A body → Rewritten 0x0A body
+line-back : (body : List ℕ) → Whole 0x0A body → Request-rewritten 0x0A body
 unfolding bodyTurn codeOf bodyOf callOk hasReturn
 line-back body w =
     let n = length-is 0x0A 4 (w .init) (λ u b h. fixed-more (length u) 4 h) (w .goes) (fixed-done (length (w .init)) 4 (w .ends)) in
     let five : length body ≡ 5 = rw (← w .joined, length-append (w .init) (w .last ∷ [])) (omega arith) in
     by-call 0x0A body osword0 body [] refl refl (rw five) (omega arith)
 
-args-back : (body : List ℕ) → Whole 0x0C body → Rewritten 0x0C body
+args-back : (body : List ℕ) → Whole 0x0C body → Request-rewritten 0x0C body
 unfolding bodyTurn codeOf bodyOf callOk hasReturn
 args-back body w =
     let n = length-is 0x0C 5 (w .init) (λ u b h. fixed-more (length u) 5 h) (w .goes) (fixed-done (length (w .init)) 5 (w .ends)) in
@@ -203,25 +203,25 @@ args-back body w =
     by-call 0x0C body (osargs (getD (w .init) 0 0) (w .last)) (drop 1 (w .init)) [] refl
     (ap (λ (l : List ℕ). l ++ (w .last ∷ [])) (sym (first-of (w .init) 4 n)) ∙ w .joined) (rw four) (omega arith)
 
-bget-back : (body : List ℕ) → Whole 0x0E body → Rewritten 0x0E body
+bget-back : (body : List ℕ) → Whole 0x0E body → Request-rewritten 0x0E body
 unfolding bodyTurn codeOf bodyOf callOk hasReturn
 bget-back body w =
     let n = length-is 0x0E 0 (w .init) (λ u b h. fixed-more (length u) 0 h) (w .goes) (omega arith) in
     by-call 0x0E body (osbget (w .last)) [] [] refl (ap (λ (l : List ℕ). l ++ (w .last ∷ [])) (sym (zero-long (w .init) n)) ∙ w .joined) refl (omega arith)
 
-bput-back : (body : List ℕ) → Whole 0x10 body → Rewritten 0x10 body
+bput-back : (body : List ℕ) → Whole 0x10 body → Request-rewritten 0x10 body
 unfolding bodyTurn codeOf bodyOf callOk hasReturn
 bput-back body w =
     let n = length-is 0x10 1 (w .init) (λ u b h. fixed-more (length u) 1 h) (w .goes) (fixed-done (length (w .init)) 1 (w .ends)) in
     by-call 0x10 body (osbput (getD (w .init) 0 0) (w .last)) [] [] refl (ap (λ (l : List ℕ). l ++ (w .last ∷ [])) (sym (one-long (w .init) n)) ∙ w .joined) refl (omega arith)
 
-gbpb-back : (body : List ℕ) → Whole 0x16 body → Rewritten 0x16 body
+gbpb-back : (body : List ℕ) → Whole 0x16 body → Request-rewritten 0x16 body
 unfolding bodyTurn codeOf bodyOf callOk hasReturn
 gbpb-back body w =
     let n = length-is 0x16 13 (w .init) (λ u b h. fixed-more (length u) 13 h) (w .goes) (fixed-done (length (w .init)) 13 (w .ends)) in
     by-call 0x16 body (osgbpb (w .last)) (w .init) [] refl (w .joined) (rw n) (omega arith)
 
-word-back : (body : List ℕ) → ((i : ℕ) → getD body i 0 ≤ 255) → Whole 0x08 body → Rewritten 0x08 body
+word-back : (body : List ℕ) → ((i : ℕ) → getD body i 0 ≤ 255) → Whole 0x08 body → Request-rewritten 0x08 body
 unfolding bodyTurn codeOf bodyOf callOk hasReturn
 word-back body bytes w = go (w .init) (w .joined) (w .goes) (w .ends)
   where
@@ -237,7 +237,7 @@ word-back body bytes w = go (w .init) (w .joined) (w .goes) (w .ends)
     long a k s nil g = omega arith
     long a k s (snoc u x) g = omega (arith, fixed-more (length u) k (goes-last 0x08 (a ∷ k ∷ []) u x g), length-append u (x ∷ []))
 
-    go : (i : List ℕ) → i ++ (w .last ∷ []) ≡ body → Goes 0x08 [] i → bodyTurn 0x08 i (w .last) ≡ done → Rewritten 0x08 body
+    go : (i : List ℕ) → i ++ (w .last ∷ []) ≡ body → Goes 0x08 [] i → bodyTurn 0x08 i (w .last) ≡ done → Request-rewritten 0x08 body
     go [] j g e = absurd (first (eqb (w .last) 0) e)
     go (a ∷ []) j g e = more-done e
     go (a ∷ k ∷ s) j g e =
@@ -246,22 +246,22 @@ word-back body bytes w = go (w .init) (w .joined) (w .goes) (w .ends)
         by-call 0x08 body (osword a (w .last)) s [] refl (ap (λ (m : ℕ). a ∷ m ∷ (s ++ (w .last ∷ []))) n ∙ j)
         (rw (not-zero (eqb a 0) (g .0), le-leb (length s) 255 (omega arith))) (omega arith)
 
-find-back : (body : List ℕ) → Whole 0x12 body → Rewritten 0x12 body
+find-back : (body : List ℕ) → Whole 0x12 body → Request-rewritten 0x12 body
 unfolding bodyTurn codeOf bodyOf callOk hasReturn
 find-back body w = go (w .init) (w .joined) (w .goes) (w .ends)
   where
-    close : (a : ℕ) (s : List ℕ) → eqb a 0 ≡ true → a ∷ (s ++ (w .last ∷ [])) ≡ body → Goes 0x12 (a ∷ []) s → Rewritten 0x12 body
+    close : (a : ℕ) (s : List ℕ) → eqb a 0 ≡ true → a ∷ (s ++ (w .last ∷ [])) ≡ body → Goes 0x12 (a ∷ []) s → Request-rewritten 0x12 body
     close a [] z j g = by-call 0x12 body (osfindClose (w .last)) [] [] refl (ap (λ (x : ℕ). x ∷ w .last ∷ []) (sym (eqb-true a 0 z)) ∙ j) refl (omega arith)
     close a (x ∷ s) z j g = done-more (rw z at (g .0))
 
     open-turn : (a : ℕ) → eqb a 0 ≡ false → (u : List ℕ) (b : ℕ) → bodyTurn 0x12 (a ∷ u) b ≡ more → (NoReturn b) × (length u < 255)
     open-turn a z u b h = string-more (length u) b (rw z at h)
 
-    go : (i : List ℕ) → i ++ (w .last ∷ []) ≡ body → Goes 0x12 [] i → bodyTurn 0x12 i (w .last) ≡ done → Rewritten 0x12 body
+    go : (i : List ℕ) → i ++ (w .last ∷ []) ≡ body → Goes 0x12 [] i → bodyTurn 0x12 i (w .last) ≡ done → Request-rewritten 0x12 body
     go [] j g e = more-done e
     go (a ∷ s) j g e = by (eqb a 0) refl
       where
-        by : (t : Bool) → eqb a 0 ≡ t → Rewritten 0x12 body
+        by : (t : Bool) → eqb a 0 ≡ t → Request-rewritten 0x12 body
         by true z = close a s z j (g .1)
         by false z =
             let r : w .last ≡ return = eqb-true (w .last) return (string-done (length s) (w .last) (rw z at e)) in
@@ -324,7 +324,7 @@ module _ (b : List ℕ) (sixteen : length b ≡ 16) where
 
   -- the whole: the block, the name, its return, A
   named : (t : List ℕ) (x a : ℕ) (body : List ℕ) → ((b ++ t) ++ (x ∷ [])) ++ (a ∷ []) ≡ body → Goes 0x14 [] ((b ++ t) ++ (x ∷ []))
-      → bodyTurn 0x14 ((b ++ t) ++ (x ∷ [])) a ≡ done → Rewritten 0x14 body
+      → bodyTurn 0x14 ((b ++ t) ++ (x ∷ [])) a ≡ done → Request-rewritten 0x14 body
   unfolding bodyTurn codeOf bodyOf callOk
   named t x a body j g e =
       let w = (b ++ t) ++ (x ∷ []) in
@@ -354,10 +354,10 @@ past-block u x a e =
       | no h ↦ absurd (true≢false (sym (d .1) ∙ ap ended (drop-of-length-le (u ++ (x ∷ [])) {i = 16} (omega (arith, h, length-append u (x ∷ []))))))
     ]
 
-file-back : (body : List ℕ) → Whole 0x14 body → Rewritten 0x14 body
+file-back : (body : List ℕ) → Whole 0x14 body → Request-rewritten 0x14 body
 file-back body w = go (w .init) (ends-of (w .init)) (w .joined) (w .goes) (w .ends)
   where
-    go : (i : List ℕ) → Ends i → i ++ (w .last ∷ []) ≡ body → Goes 0x14 [] i → bodyTurn 0x14 i (w .last) ≡ done → Rewritten 0x14 body
+    go : (i : List ℕ) → Ends i → i ++ (w .last ∷ []) ≡ body → Goes 0x14 [] i → bodyTurn 0x14 i (w .last) ≡ done → Request-rewritten 0x14 body
     go i nil j g e = absurd (no-block (w .last) e)
     go i (snoc u x) j g e =
         let l = past-block u x (w .last) e in
@@ -369,14 +369,14 @@ file-back body w = go (w .init) (ends-of (w .init)) (w .joined) (w .goes) (w .en
 
 -- A finished body of any code: by the code, and there is no other.
 module _ (code : ℕ) (body : List ℕ) where
-  or-else : (n : ℕ) → (Whole n body → Rewritten n body) → Whole code body → (eqb code n ≡ false → Rewritten code body) → Rewritten code body
+  or-else : (n : ℕ) → (Whole n body → Request-rewritten n body) → Whole code body → (eqb code n ≡ false → Request-rewritten code body) → Request-rewritten code body
   or-else n back w else = go (eqb code n) refl
     where
-      go : (t : Bool) → eqb code n ≡ t → Rewritten code body
-      go true e = let c = eqb-true code n e in subst (λ (k : ℕ). Rewritten k body) (sym c) (back (subst (λ (k : ℕ). Whole k body) c w))
+      go : (t : Bool) → eqb code n ≡ t → Request-rewritten code body
+      go true e = let c = eqb-true code n e in subst (λ (k : ℕ). Request-rewritten k body) (sym c) (back (subst (λ (k : ℕ). Whole k body) c w))
       go false e = else e
 
-  pub rewritten : ((i : ℕ) → getD body i 0 ≤ 255) → Whole code body → Rewritten code body
+  pub rewritten : ((i : ℕ) → getD body i 0 ≤ 255) → Whole code body → Request-rewritten code body
   unfolding bodyTurn
   rewritten bytes w =
       or-else 0x02 (cli-back body) w

@@ -11,7 +11,7 @@ use Rattle.serial_rules.specs.Escape.{Piece, pending, dataByte, mark, pi
 use Rattle.serial_rules.specs.Marks.{bit, inwardClass, errorMark, escapeMark, eventMark, addressMark}
 use Rattle.serial_rules.specs.Body.{Turn, more, done, refused}
 use Rattle.serial_rules.specs.Reply.{Kind, Shape, shapeOf, shapeTurn, longest}
-use Rattle.serial_rules.specs.Link.{Report, needMore, character, reply, escapeState, event, address, error, restart, refusal, Action, failing, signal, place, ownShape, Doing, none, own, Layer, layer, Token, within, datum, acted, failed, bad, seen, failure, finish, ownByte, opens, markOutside, pieceSeen, look, Wait, idle, waiting, Frame, frame, complete, begun, Standing, halted, holds, replyTurned, taken, meets, Link, stopped, live, linkAt, step, entry, enterAt, enters, begin}
+use Rattle.serial_rules.specs.Link.{Report, needMore, character, reply, escapeState, event, address, error, restart, refusal, Action, failing, signal, place, ownShape, Doing, none, own, Layer, layer, Token, underway, datum, acted, failed, bad, seen, failure, finish, ownByte, opens, markOutside, pieceSeen, look, Wait, idle, waiting, Frame, frame, complete, begun, Standing, halted, holds, replyTurned, datumMet, meets, Link, stopped, live, linkAt, step, entry, enterAt, enters, begin}
 use Rattle.serial_rules.specs.Session.{Input, raw, call, nextBy, linkAfter}
 use Rattle.serial_rules.proofs.Ends.{Ends, last, next}
 use Rattle.serial_rules.proofs.Parts.{length-snoc}
@@ -44,14 +44,14 @@ turned-stands k s b more e h = (h .0, grows s b (h .1) e)
 turned-stands k s b done e h = tt
 turned-stands k s b (refused n) e h = tt
 
-taken-stands : (f : Frame) (w : Wait) (b : ℕ) → f .wait ≡ w → Held w (f .got) → Stands (taken f w b .next)
-taken-stands f idle b e h = subst (λ (u : Wait). Held u (f .got)) (sym e) h
-taken-stands f (waiting k) b e h = turned-stands k (f .got) b (shapeTurn (shapeOf k) (length (f .got)) b) refl h
+datum-stands : (f : Frame) (w : Wait) (b : ℕ) → f .wait ≡ w → Held w (f .got) → Stands (datumMet f w b .next)
+datum-stands f idle b e h = subst (λ (u : Wait). Held u (f .got)) (sym e) h
+datum-stands f (waiting k) b e h = turned-stands k (f .got) b (shapeTurn (shapeOf k) (length (f .got)) b) refl h
 
 meets-stands : (f : Frame) (t : Token) → Held (f .wait) (f .got) → Stands (meets f t .next)
 unfolding meets
-meets-stands f within h = h
-meets-stands f (datum b) h = taken-stands f (f .wait) b refl h
+meets-stands f underway h = h
+meets-stands f (datum b) h = datum-stands f (f .wait) b refl h
 meets-stands f (acted r) h = h
 meets-stands f (failed r) h = tt
 meets-stands f (bad n) h = tt
@@ -94,7 +94,7 @@ Bare restart = Unit
 Bare (refusal n) = Unit
 
 abbrev BareToken : Token → Type 0
-BareToken within = Unit
+BareToken underway = Unit
 BareToken (datum b) = Unit
 BareToken (acted r) = Bare r
 BareToken (failed r) = Bare r
@@ -167,10 +167,10 @@ bare-not r s b e = subst Bare e b
 
 meets-ends : (f : Frame) (t : Token) (k : Kind) (s : List ℕ) → f .wait ≡ waiting k → Held (f .wait) (f .got) → BareToken t → meets f t .report ≡ reply s → Finished k s
 unfolding meets
-meets-ends f within k s w h b q = absurd (bare-not needMore s tt q)
+meets-ends f underway k s w h b q = absurd (bare-not needMore s tt q)
 meets-ends f (datum x) k s w h b q =
     turned-ends k (f .got) s x (shapeTurn (shapeOf k) (length (f .got)) x) refl (subst (λ (u : Wait). Held u (f .got)) w h)
-    (sym (ap (λ (u : Wait). taken f u x .report) w) ∙ q)
+    (sym (ap (λ (u : Wait). datumMet f u x .report) w) ∙ q)
 meets-ends f (acted r) k s w h b q = absurd (bare-not r s b q)
 meets-ends f (failed r) k s w h b q = absurd (bare-not r s b q)
 meets-ends f (bad n) k s w h b q = absurd (bare-not (refusal n) s tt q)

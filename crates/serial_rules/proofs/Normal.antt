@@ -94,12 +94,12 @@ line-text k e h (next n b s d w) =
     record { text = b ∷ t .text; joined = ap (λ (l : List ℕ). b ∷ l) (t .joined); clean = ap (λ (x : Bool). x || hasReturn (t .text)) (q .0) ∙ t .clean; short = omega (arith, t .short) }
 
 -- The reply read from the bytes s by its kind fits it, its string is short, and its bytes are the normal ones.
-pub record Rewritten (k : Kind) (s : List ℕ) : Type 0 where
+pub record Reply-rewritten (k : Kind) (s : List ℕ) : Type 0 where
   pub fits : replyOk k (replyRead k s .reply) (replyRead k s .block) (replyRead k s .text) ≡ true
   pub short : length (replyRead k s .text) ≤ 255
   pub bytes : replyBytes (replyRead k s .reply) (replyRead k s .block) (replyRead k s .text) ≡ normalOf k s
 
-positive-of : (n : ℕ) → (n ≡ 0 → ⊥) → 0 < n
+pub positive-of : (n : ℕ) → (n ≡ 0 → ⊥) → 0 < n
 positive-of n h = go (eqb n 0) refl
   where
     go : (t : Bool) → eqb n 0 ≡ t → 0 < n
@@ -127,19 +127,19 @@ some-bytes n (x ∷ b) h = (x, b, refl, omega (arith, h))
 fixed-size : (k : ℕ) {s : List ℕ} → 0 < k → Ends (fixed k) 0 s → length s ≡ k
 fixed-size k h w = omega (arith, fixed-length k h w)
 
-word-case : (n : ℕ) (s : List ℕ) → length s ≡ n → Rewritten (osword n) s
+word-case : (n : ℕ) (s : List ℕ) → length s ≡ n → Reply-rewritten (osword n) s
 unfolding replyOk replyRead replyBytes normalOf hasReturn
 word-case n s h = record { fits = simp (eq-eqb (length s) n h); short = omega arith; bytes = refl }
 
-args-case : (x : ℕ) (b : List ℕ) → length b ≡ 4 → Rewritten osargs (x ∷ b)
+args-case : (x : ℕ) (b : List ℕ) → length b ≡ 4 → Reply-rewritten osargs (x ∷ b)
 unfolding replyOk replyRead replyBytes normalOf hasReturn
 args-case x b h = record { fits = simp (eq-eqb (length b) 4 h); short = omega arith; bytes = refl }
 
-file-case : (x : ℕ) (b : List ℕ) → length b ≡ 16 → Rewritten osfile (x ∷ b)
+file-case : (x : ℕ) (b : List ℕ) → length b ≡ 16 → Reply-rewritten osfile (x ∷ b)
 unfolding replyOk replyRead replyBytes normalOf hasReturn
 file-case x b h = record { fits = simp (eq-eqb (length b) 16 h); short = omega arith; bytes = refl }
 
-gbpb-case : (p : List ℕ) (x y : ℕ) → length p ≡ 13 → Rewritten osgbpb (p ++ (x ∷ y ∷ []))
+gbpb-case : (p : List ℕ) (x y : ℕ) → length p ≡ 13 → Reply-rewritten osgbpb (p ++ (x ∷ y ∷ []))
 unfolding replyOk replyRead replyBytes normalOf hasReturn
 gbpb-case p x y h =
     let t = take-at p (x ∷ y ∷ []) 13 h in
@@ -151,24 +151,24 @@ gbpb-case p x y h =
       bytes = rw (t, a, b, drop-at p (x ∷ y ∷ []) 13 h);
     }
 
-gbpb-joined : (s : List ℕ) (x y : ℕ) → length s ≡ 15 → drop 13 s ≡ x ∷ y ∷ [] → Rewritten osgbpb s
+gbpb-joined : (s : List ℕ) (x y : ℕ) → length s ≡ 15 → drop 13 s ≡ x ∷ y ∷ [] → Reply-rewritten osgbpb s
 gbpb-joined s x y n e =
-    subst (Rewritten osgbpb) (ap (λ (l : List ℕ). take 13 s ++ l) (sym e) ∙ take-append-drop 13 s) (gbpb-case (take 13 s) x y (length-take-le 13 s (omega (arith, n))))
+    subst (Reply-rewritten osgbpb) (ap (λ (l : List ℕ). take 13 s ++ l) (sym e) ∙ take-append-drop 13 s) (gbpb-case (take 13 s) x y (length-take-le 13 s (omega (arith, n))))
 
-gbpb-split : (s : List ℕ) → length s ≡ 15 → Rewritten osgbpb s
+gbpb-split : (s : List ℕ) → length s ≡ 15 → Reply-rewritten osgbpb s
 gbpb-split s n = let t = two-bytes (drop 13 s) (omega (arith, n, length-drop 13 s)) in gbpb-joined s (t .0) (t .1) n (t .2)
 
-gone-case : (x : ℕ) → flag x ≡ true → Rewritten osword0 (x ∷ [])
+gone-case : (x : ℕ) → flag x ≡ true → Reply-rewritten osword0 (x ∷ [])
 unfolding replyOk replyRead replyBytes normalOf hasReturn
 gone-case x h = record { fits = rw h; short = rw h (omega arith); bytes = rw h }
 
-typed-case : (x : ℕ) (t : List ℕ) → flag x ≡ false → hasReturn t ≡ false → length t ≤ 255 → Rewritten osword0 (x ∷ (t ++ (return ∷ [])))
+typed-case : (x : ℕ) (t : List ℕ) → flag x ≡ false → hasReturn t ≡ false → length t ≤ 255 → Reply-rewritten osword0 (x ∷ (t ++ (return ∷ [])))
 unfolding replyOk replyRead replyBytes normalOf
 typed-case x t h c m =
     let e : take (length (x ∷ (t ++ (return ∷ []))) - 2) (t ++ (return ∷ [])) ≡ t = take-at t (return ∷ []) (suc (length (t ++ (return ∷ []))) - 2) (omega (arith, length-append t (return ∷ []))) in
     record { fits = rw (h, e, c); short = rw (h, e) m; bytes = rw (h, e) }
 
-pub read-then-written : (k : Kind) (s : List ℕ) → Ends (shapeOf k) 0 s → (longest (shapeOf k) ≡ 0 → ⊥) → Rewritten k s
+pub read-then-written : (k : Kind) (s : List ℕ) → Ends (shapeOf k) 0 s → (longest (shapeOf k) ≡ 0 → ⊥) → Reply-rewritten k s
 unfolding replyOk replyRead replyBytes normalOf hasReturn
 read-then-written osrdch s w h = let t = two-bytes s (fixed-size 2 (omega arith) w) in rw (t .2) record { fits = refl; short = omega arith; bytes = refl }
 read-then-written oscli s w h = let t = one-byte s (fixed-size 1 (omega arith) w) in rw (t .1) record { fits = refl; short = omega arith; bytes = refl }

@@ -16,11 +16,11 @@ use Rattle.serial_rules.specs.Call.{return, hasReturn}
 use Rattle.serial_rules.specs.Body.{more, done}
 use Rattle.serial_rules.specs.Reply.{Kind, osrdch, oscli, osbyteLow, osbyteHigh, osword, osword0, osargs, osbget, osbput, osfindClose, osfindOpen, osfile, osgbpb, fixed, line, shapeOf, shapeTurn, longest, Reply, carryA, ack, byte, carryYX, block, escapedLine, readLine, aBlock, plain, blockCarryA, carryByte, ackByte, replyBytes, formOf, formIn, blockIn, hasLine, replyOk, given, flag, replyRead}
 use Rattle.serial_rules.specs.Link.{needMore, reply, none, datum, Frame, frame, waiting, holds, Met, replyTurned, meets, live, fresh, linkAt, begun, complete, begins, enters, begin}
-use Rattle.serial_rules.specs.Session.{Input, raw, Told, report, tells, token, signs, says, fill, behind, rest}
+use Rattle.serial_rules.specs.Session.{Input, raw, Told, report, tells, token, signs, says, fill, behind, between}
 use Rattle.serial_rules.proofs.Trip.{and-both}
 use Rattle.serial_rules.proofs.Session.{layers-told}
 use Rattle.serial_rules.proofs.Parts.{second, data-signs, behind-data, fill-append, fill-data, length-snoc}
-use Rattle.serial_rules.proofs.Actions.{within-said}
+use Rattle.serial_rules.proofs.Actions.{underway-said}
 use Rattle.serial_rules.proofs.Finished.{zero-long}
 use Rattle.serial_rules.proofs.Ends.{Ends, last, next, fixed-ends, line-ends}
 
@@ -177,20 +177,20 @@ back b t (gbpb {c = c} {a = a}) e h =
 
 -- a data byte of the reply, whatever follows
 data-told : (f : Frame) (b : ℕ) (s : List ℕ) (t : List Input)
-    → tells (live rest f) (map raw (escaped (b ∷ s)) ++ t)
-    ≡ fill (report needMore) (second b) ++ (report (meets f (datum b) .report) ∷ tells (linkAt rest (meets f (datum b) .next)) (map raw (escaped s) ++ t))
+    → tells (live between f) (map raw (escaped (b ∷ s)) ++ t)
+    ≡ fill (report needMore) (second b) ++ (report (meets f (datum b) .report) ∷ tells (linkAt between (meets f (datum b) .next)) (map raw (escaped s) ++ t))
 unfolding says
 data-told f b s t =
     let l = map raw (escaped s) ++ t in
     let m = meets f (datum b) in
-    layers-told rest (holds f) (map raw (escaped (b ∷ s)) ++ t)
+    layers-told between (holds f) (map raw (escaped (b ∷ s)) ++ t)
     ∙ ap (says (holds f)) (data-signs none b s t)
-    ∙ within-said f (second b) (token (datum b) ∷ signs rest l)
-    ∙ ap (λ (w : List Told). fill (report needMore) (second b) ++ (report (m .report) ∷ w)) (sym (layers-told rest (m .next) l))
+    ∙ underway-said f (second b) (token (datum b) ∷ signs between l)
+    ∙ ap (λ (w : List Told). fill (report needMore) (second b) ++ (report (m .report) ∷ w)) (sym (layers-told between (m .next) l))
 
 abbrev Reads : Kind → List ℕ → List ℕ → List Input → Type 0
 Reads k got s t =
-    tells (live rest (frame (waiting k) got)) (map raw (escaped s) ++ t)
+    tells (live between (frame (waiting k) got)) (map raw (escaped s) ++ t)
     ≡ fill (report needMore) (behind (map raw (escaped s))) ++ (report (reply (got ++ s)) ∷ tells fresh t)
 
 -- The one induction over all kinds: bytes that end at their last, behind those so far, are read as the reply there.
@@ -199,7 +199,7 @@ unfolding escaped meets
 reads k got t e (last n b d) =
     let q : meets (frame (waiting k) got) (datum b) ≡ replyTurned k got b done = ap (replyTurned k got b) (ap (λ (i : ℕ). shapeTurn (shapeOf k) i b) (sym e) ∙ d) in
     data-told (frame (waiting k) got) b [] t
-    ∙ ap (λ (m : Met). fill (report needMore) (second b) ++ (report (m .report) ∷ tells (linkAt rest (m .next)) t)) q
+    ∙ ap (λ (m : Met). fill (report needMore) (second b) ++ (report (m .report) ∷ tells (linkAt between (m .next)) t)) q
     ∙ ap (λ (l : List Input). fill (report needMore) l ++ (report (reply (got ++ (b ∷ []))) ∷ tells fresh t)) (sym (behind-data b [] ∙ append-nil (second b)))
 reads k got t e (next n b (c ∷ s) d w) =
     let q : meets (frame (waiting k) got) (datum b) ≡ replyTurned k got b more = ap (replyTurned k got b) (ap (λ (i : ℕ). shapeTurn (shapeOf k) i b) (sym e) ∙ d) in
@@ -207,7 +207,7 @@ reads k got t e (next n b (c ∷ s) d w) =
     let l = map raw (escaped (c ∷ s)) in
     let z = report (reply ((got ++ (b ∷ [])) ++ (c ∷ s))) ∷ tells fresh t in
     data-told (frame (waiting k) got) b (c ∷ s) t
-    ∙ ap (λ (m : Met). f ++ (report (m .report) ∷ tells (linkAt rest (m .next)) (l ++ t))) q
+    ∙ ap (λ (m : Met). f ++ (report (m .report) ∷ tells (linkAt between (m .next)) (l ++ t))) q
     ∙ ap (λ (u : List Told). f ++ (report needMore ∷ u)) (reads k (got ++ (b ∷ [])) t (ap suc e ∙ sym (length-snoc got b)) w)
     ∙ ap (λ (u : List Told). f ++ (u ++ z)) (sym (fill-data (report needMore) c s))
     ∙ sym (append-assoc f (fill (report needMore) l) z)
@@ -216,14 +216,14 @@ reads k got t e (next n b (c ∷ s) d w) =
     ∙ ap (λ (u : List ℕ). fill (report needMore) (behind (map raw (escaped (b ∷ c ∷ s)))) ++ (report (reply u) ∷ tells fresh t)) (append-assoc got (b ∷ []) (c ∷ s))
 
 -- Writing then reading gives the reply, finished at its last byte, whatever follows; one without a byte is complete when begun.
-pub record Answered (k : Kind) (r : Reply) (b t : List ℕ) (rest-in : List Input) : Type 0 where
+pub record Reply-read-back (k : Kind) (r : Reply) (b t : List ℕ) (i : List Input) : Type 0 where
   pub complete : longest (shapeOf k) ≡ 0 → (begin fresh k ≡ begins complete fresh) × (replyBytes r b t ≡ [])
-  pub waits : (longest (shapeOf k) ≡ 0 → ⊥) → begin fresh k ≡ begins begun (live rest (frame (waiting k) []))
-  pub told : (longest (shapeOf k) ≡ 0 → ⊥) → tells (live rest (frame (waiting k) [])) (map raw (escaped (replyBytes r b t)) ++ rest-in)
-      ≡ fill (report needMore) (behind (map raw (escaped (replyBytes r b t)))) ++ (report (reply (replyBytes r b t)) ∷ tells fresh rest-in)
+  pub waits : (longest (shapeOf k) ≡ 0 → ⊥) → begin fresh k ≡ begins begun (live between (frame (waiting k) []))
+  pub told : (longest (shapeOf k) ≡ 0 → ⊥) → tells (live between (frame (waiting k) [])) (map raw (escaped (replyBytes r b t)) ++ i)
+      ≡ fill (report needMore) (behind (map raw (escaped (replyBytes r b t)))) ++ (report (reply (replyBytes r b t)) ∷ tells fresh i)
   pub meaning : replyRead k (replyBytes r b t) ≡ given r b t
 
-begin-waits : (k : Kind) → (longest (shapeOf k) ≡ 0 → ⊥) → begin fresh k ≡ begins begun (live rest (frame (waiting k) []))
+begin-waits : (k : Kind) → (longest (shapeOf k) ≡ 0 → ⊥) → begin fresh k ≡ begins begun (live between (frame (waiting k) []))
 unfolding begin enters
 begin-waits k h = simp (ne-eqb (longest (shapeOf k)) 0 h)
 
@@ -248,12 +248,22 @@ no-bytes b t opened e h = absurd (omega arith)
 no-bytes b t file e h = absurd (omega arith)
 no-bytes b t gbpb e h = absurd (omega arith)
 
-pub written-then-read : (k : Kind) (r : Reply) (b t : List ℕ) (i : List Input) → replyOk k r b t ≡ true → length t ≤ 255 → Answered k r b t i
+-- a reply that fits its kind: its bytes end at the last one, there is none where the kind has none, and they mean that reply
+module _ (k : Kind) (r : Reply) (b t : List ℕ) (h : replyOk k r b t ≡ true) where
+  pub reply-whole : length t ≤ 255 → (longest (shapeOf k) ≡ 0 → ⊥) → Ends (shapeOf k) 0 (replyBytes r b t)
+  reply-whole m z = let f = facts k r b t h in whole b t (f .fits) (f .size) (f .clean) m z
+
+  pub reply-none : longest (shapeOf k) ≡ 0 → replyBytes r b t ≡ []
+  reply-none z = let f = facts k r b t h in no-bytes b t (f .fits) (f .size) z
+
+  pub reply-back : replyRead k (replyBytes r b t) ≡ given r b t
+  reply-back = let f = facts k r b t h in back b t (f .fits) (f .size) (f .line)
+
+pub written-then-read : (k : Kind) (r : Reply) (b t : List ℕ) (i : List Input) → replyOk k r b t ≡ true → length t ≤ 255 → Reply-read-back k r b t i
 written-then-read k r b t i h m =
-    let f = facts k r b t h in
     record {
-      complete = λ z. (begin-complete k z, no-bytes b t (f .fits) (f .size) z);
+      complete = λ z. (begin-complete k z, reply-none k r b t h z);
       waits = begin-waits k;
-      told = λ z. reads k [] i refl (whole b t (f .fits) (f .size) (f .clean) m z);
-      meaning = back b t (f .fits) (f .size) (f .line);
+      told = λ z. reads k [] i refl (reply-whole k r b t h m z);
+      meaning = reply-back k r b t h;
     }

@@ -2,7 +2,7 @@
 -- signs that leave the reply at its place can be left out and their reports put back.
 use mathlib.Core.Path.{_≡_, refl, ap}
 use mathlib.Core.List.{List, [], _∷_}
-use Rattle.serial_rules.specs.Link.{needMore, refusal, Layer, within, datum, acted, failed, bad, look, Standing, halted, holds, meets, linkAt, step, denied, enters, begin}
+use Rattle.serial_rules.specs.Link.{needMore, refusal, Layer, underway, datum, acted, failed, bad, look, Standing, halted, holds, meets, linkAt, step, denied, enters, begin}
 use Rattle.serial_rules.specs.Session.{Input, raw, call, Told, report, answer, tells, linkAfter, Sign, token, began, signs, layerAfter, standsBy, says, standsAfter, movers, woven}
 
 pub layers-told : (l : Layer) (S : Standing) (s : List Input) → tells (linkAt l S) s ≡ says S (signs l s)
@@ -35,8 +35,8 @@ halted-stays (s ∷ l) = halted-stays l
 pub movers-move : (S : Standing) (l : List Sign) → standsAfter S l ≡ standsAfter S (movers l)
 unfolding standsAfter movers meets
 movers-move S [] = refl
-movers-move halted (token within ∷ l) = movers-move halted l
-movers-move (holds f) (token within ∷ l) = movers-move (holds f) l
+movers-move halted (token underway ∷ l) = movers-move halted l
+movers-move (holds f) (token underway ∷ l) = movers-move (holds f) l
 movers-move halted (token (acted r) ∷ l) = movers-move halted l
 movers-move (holds f) (token (acted r) ∷ l) = movers-move (holds f) l
 movers-move S (token (datum b) ∷ l) = movers-move (standsBy S (token (datum b))) l
@@ -49,7 +49,7 @@ pub weave : (S : Standing) (l : List Sign) → (standsAfter S l ≡ halted → �
 unfolding says woven movers standsAfter meets
 weave S [] h = refl
 weave halted (s ∷ l) h = absurd (h (halted-stays l))
-weave (holds f) (token within ∷ l) h = ap (λ (w : List Told). report needMore ∷ w) (weave (holds f) l h)
+weave (holds f) (token underway ∷ l) h = ap (λ (w : List Told). report needMore ∷ w) (weave (holds f) l h)
 weave (holds f) (token (acted r) ∷ l) h = ap (λ (w : List Told). report r ∷ w) (weave (holds f) l h)
 weave (holds f) (token (datum b) ∷ l) h =
     let m = meets f (datum b) in

@@ -14,7 +14,7 @@ use Rattle.serial_rules.specs.Marks.{bit, isCode, startsRequest}
 use Rattle.serial_rules.specs.Call.{Call, osrdch, oscli, osbyteLow, osbyteHigh, osword, osword0, osargs, osbget, osbput, osfindClose, osfindOpen, osfile, osgbpb, codeOf, bodyOf, return, hasReturn, numbersOk, blockOk, hasString, callOk, Carrier, serial, parallel, carried, heading, styleOk, encodingOf}
 use Rattle.serial_rules.specs.Body.{Turn, more, done, fixedTurn, nameTurn, ended, fileTurn, bodyTurn}
 use Rattle.serial_rules.specs.Reader.{Reader, Answer, needMore, character, refusal, outside, inside, request, Step, begun, turned, step}
-use Rattle.serial_rules.specs.Stream.{Fed, gave, fedBy, feed, answers, Gives}
+use Rattle.serial_rules.specs.Stream.{Fed, gave, fedBy, feed, answers, First-answer}
 use Rattle.serial_rules.proofs.Escape.{escaped-one}
 use Rattle.serial_rules.proofs.Limits.{code-most, string-more, name-more, name-return}
 use Rattle.serial_rules.proofs.Stream.{carried-append, carried-none}
@@ -330,12 +330,12 @@ round-trip carrier style call b t r s ok h =
 
 -- what `feed` says of all the answers
 fed-gives : (carrier : Carrier) (r : Reader) (l : List ℕ) (a : Answer) (q : Reader) (rest : List ℕ) → feed carrier r l ≡ gave a q rest
-    → Gives carrier r l a q rest
+    → First-answer carrier r l a q rest
 unfolding feed answers
 fed-gives carrier r [] a q rest h = let z : _≡_ {A = ℕ} 0 1 = cc in absurd (omega arith)
 fed-gives carrier r (x ∷ l) a q rest h = go (step carrier r x .answer) refl (fed-gives carrier (step carrier r x .next) l a q rest)
   where
-    now : (b : Answer) → step carrier r x .answer ≡ b → gave b (step carrier r x .next) l ≡ gave a q rest → Gives carrier r (x ∷ l) a q rest
+    now : (b : Answer) → step carrier r x .answer ≡ b → gave b (step carrier r x .next) l ≡ gave a q rest → First-answer carrier r (x ∷ l) a q rest
     now b e g =
         let at-a : b ≡ a = cc in
         let at-q : step carrier r x .next ≡ q = cc in
@@ -343,7 +343,7 @@ fed-gives carrier r (x ∷ l) a q rest h = go (step carrier r x .answer) refl (f
         record { waits = 0; answers-are = rw (e, at-a, at-q, at-l); place = rw at-l (omega arith) }
 
     go : (b : Answer) → step carrier r x .answer ≡ b
-        → (feed carrier (step carrier r x .next) l ≡ gave a q rest → Gives carrier (step carrier r x .next) l a q rest) → Gives carrier r (x ∷ l) a q rest
+        → (feed carrier (step carrier r x .next) l ≡ gave a q rest → First-answer carrier (step carrier r x .next) l a q rest) → First-answer carrier r (x ∷ l) a q rest
     go needMore e later =
         let g = later (rw e at h) in
         record { waits = suc (g .waits); answers-are = rw (e, g .answers-are); place = omega (arith, g .place) }
@@ -353,7 +353,7 @@ fed-gives carrier r (x ∷ l) a q rest h = go (step carrier r x .answer) refl (f
 
 -- Writing then reading: the request, finished at the last byte of its encoding, neither earlier nor later, whatever follows.
 pub written-then-read : (carrier : Carrier) (style : ℕ) (call : Call) (b t r : List ℕ) → styleOk carrier style ≡ true → callOk call b t ≡ true → length t ≤ 255
-    → Gives carrier (outside false) (encodingOf carrier style call b t ++ r) (request style (codeOf call) (bodyOf call b t)) (outside false) r
+    → First-answer carrier (outside false) (encodingOf carrier style call b t ++ r) (request style (codeOf call) (bodyOf call b t)) (outside false) r
 written-then-read carrier style call b t r s ok h =
     fed-gives carrier (outside false) (encodingOf carrier style call b t ++ r) (request style (codeOf call) (bodyOf call b t)) (outside false) r
     (round-trip carrier style call b t r s ok h)

@@ -4,7 +4,7 @@ use mathlib.Core.Bool.{Bool, false, cond}
 use mathlib.Core.List.{List, [], _∷_}
 use lib.Dec.{ltb, leb, eqb}
 use lib.ListN.{length, drop}
-use Rattle.serial_rules.specs.Call.{return, stringLimit}
+use Rattle.serial_rules.specs.Call.{return, stringLimit, fileBlock}
 
 pub data Turn : Type 0 where
   more : Turn
@@ -46,7 +46,7 @@ ended (x ∷ y ∷ s) = ended (y ∷ s)
 
 -- OSFILE: "16 bytes, string, A"; "the name is read from the part of the body that starts after the block". The byte after the &0D is A.
 abbrev pub fileTurn : List ℕ → ℕ → Turn
-fileTurn s b = cond (ltb (length s) 16) more (cond (ended (drop 16 s)) done (nameTurn (length s - 16) b))
+fileTurn s b = cond (ltb (length s) fileBlock) more (cond (ended (drop fileBlock s)) done (nameTurn (length s - fileBlock) b))
 
 -- the turn of a data byte b after the body bytes s of a request with this code; a code without a body takes none
 unfoldable pub bodyTurn : ℕ → List ℕ → ℕ → Turn

@@ -44,7 +44,11 @@ return = 0x0D
 abbrev pub stringLimit : ℕ
 stringLimit = 255
 
--- "The body, in order": b is the call's block, "high byte first and kept in that order", t its string
+-- OSFILE's block: "16 bytes"
+abbrev pub fileBlock : ℕ
+fileBlock = 16
+
+-- "The body, in order": b is the call's block, "high byte first" and "kept in that order", t its string
 unfoldable pub bodyOf : Call → List ℕ → List ℕ → List ℕ
 bodyOf osrdch b t = []
 bodyOf oscli b t = t ++ (return ∷ [])
@@ -73,7 +77,7 @@ blockOk (osbget y) nb = eqb nb 0
 blockOk (osbput y a) nb = eqb nb 0
 blockOk (osfindClose y) nb = eqb nb 0
 blockOk (osfindOpen a) nb = eqb nb 0
-blockOk (osfile a) nb = eqb nb 16
+blockOk (osfile a) nb = eqb nb fileBlock
 blockOk (osgbpb a) nb = eqb nb 13
 
 -- whether the call has a string

@@ -1,11 +1,13 @@
--- The worked cases (document 01: bench cases) of requests and replies: C9 to C15. For a request, raw bytes and what they give first.
+-- The worked cases (document 01: bench cases) of requests and replies: C9 to C15. For a request, raw bytes, what they give first,
+-- and what a finished request asks.
 use Prim.Native.Nat.{ℕ}
 use mathlib.Core.Bool.{true, false}
-use mathlib.Core.List.{List, [], _∷_, map}
-use Rattle.serial_rules.specs.Call.{serial}
-use Rattle.serial_rules.specs.Reader.{stopped, outside, request, refusal}
-use Rattle.serial_rules.specs.Stream.{Fed, gave, feed}
-use Rattle.serial_rules.specs.Reply.{Kind, osbget, kindIn, carryA, block, aBlock, Given, given, replyRead}
+use mathlib.Core.List.{List, [], _∷_, _++_, map}
+use Rattle.serial_rules.specs.Call.{osword, osargs, serial}
+use Rattle.serial_rules.specs.Fields.{fields, Asked, asks, asksNothing, askedBy}
+use Rattle.serial_rules.specs.Reader.{stopped, outside, needMore, character, request, refusal}
+use Rattle.serial_rules.specs.Stream.{Fed, waiting, gave, feed}
+use Rattle.serial_rules.specs.Reply.{Kind, osbget, kindFrom, carryA, block, aBlock, Given, given, replyRead}
 use Rattle.serial_rules.specs.Link as link
 use Rattle.serial_rules.specs.Link.{Report}
 use Rattle.serial_rules.specs.Session as session
@@ -14,10 +16,19 @@ use Rattle.serial_rules.specs.Session.{Told}
 pub record Case : Type 0 where
   pub raw : List ℕ
   pub fed : Fed
+  pub asked : Asked
+
+-- what a finished request asks
+abbrev pub askedIn : Fed → Asked
+askedIn (waiting r) = asksNothing
+askedIn (gave needMore r left) = asksNothing
+askedIn (gave (character b) r left) = asksNothing
+askedIn (gave (request style code s) r left) = askedBy code s
+askedIn (gave (refusal n) r left) = asksNothing
 
 -- the case as the rules work it
 unfoldable pub worked : Case → Case
-worked k = record { raw = k .raw; fed = feed serial (outside false) (k .raw) }
+worked k = let f = feed serial (outside false) (k .raw) in record { raw = k .raw; fed = f; asked = askedIn f }
 
 -- C9 `9B 0C 9B 9B 00 00 01 9B 9B 01` is OSARGS Y=&9B, block &0000019B, A=1.
 abbrev pub c9 : Case
@@ -25,23 +36,29 @@ c9 =
     record {
       raw = 0x9B ∷ 0x0C ∷ 0x9B ∷ 0x9B ∷ 0x00 ∷ 0x00 ∷ 0x01 ∷ 0x9B ∷ 0x9B ∷ 0x01 ∷ [];
       fed = gave (request 0 0x0C (0x9B ∷ 0x00 ∷ 0x00 ∷ 0x01 ∷ 0x9B ∷ 0x01 ∷ [])) (outside false) [];
+      asked = asks (fields (osargs 0x9B 1) (0x00 ∷ 0x00 ∷ 0x01 ∷ 0x9B ∷ []) []);
     }
 
 -- C11 `9B 04 00 80`: 9 at the last byte.
 abbrev pub c11 : Case
-c11 = record { raw = 0x9B ∷ 0x04 ∷ 0x00 ∷ 0x80 ∷ []; fed = gave (refusal 9) stopped [] }
+c11 = record { raw = 0x9B ∷ 0x04 ∷ 0x00 ∷ 0x80 ∷ []; fed = gave (refusal 9) stopped []; asked = asksNothing }
 
 -- C12 `9B 04 9B 02`: 5.
 abbrev pub c12 : Case
-c12 = record { raw = 0x9B ∷ 0x04 ∷ 0x9B ∷ 0x02 ∷ []; fed = gave (refusal 5) stopped [] }
+c12 = record { raw = 0x9B ∷ 0x04 ∷ 0x9B ∷ 0x02 ∷ []; fed = gave (refusal 5) stopped []; asked = asksNothing }
 
 -- C13 `9B 08 01 00 00`: its request, OSWORD A=1 with no bytes in and none out.
 abbrev pub c13 : Case
-c13 = record { raw = 0x9B ∷ 0x08 ∷ 0x01 ∷ 0x00 ∷ 0x00 ∷ []; fed = gave (request 0 0x08 (0x01 ∷ 0x00 ∷ 0x00 ∷ [])) (outside false) [] }
+c13 =
+    record {
+      raw = 0x9B ∷ 0x08 ∷ 0x01 ∷ 0x00 ∷ 0x00 ∷ [];
+      fed = gave (request 0 0x08 (0x01 ∷ 0x00 ∷ 0x00 ∷ [])) (outside false) [];
+      asked = asks (fields (osword 1 0) [] []);
+    }
 
 -- C14 `9B 18`: 4.
 abbrev pub c14 : Case
-c14 = record { raw = 0x9B ∷ 0x18 ∷ []; fed = gave (refusal 4) stopped [] }
+c14 = record { raw = 0x9B ∷ 0x18 ∷ []; fed = gave (refusal 4) stopped []; asked = asksNothing }
 
 unfoldable pub cases : List Case
 cases = c9 ∷ c11 ∷ c12 ∷ c13 ∷ c14 ∷ []
@@ -72,22 +89,34 @@ heard [] = []
 heard (session.report r ∷ l) = heardWith r (heard l)
 heard (session.answer a ∷ l) = session.answer a ∷ heard l
 
+-- the bytes of the replies told, one behind the other
+abbrev pub bytesOf : Report → List ℕ
+bytesOf link.needMore = []
+bytesOf (link.character b) = []
+bytesOf (link.reply s) = s
+bytesOf (link.escapeState on) = []
+bytesOf (link.event y x a) = []
+bytesOf (link.address b3 b2 b1 b0) = []
+bytesOf (link.error n t) = []
+bytesOf link.restart = []
+bytesOf (link.refusal n) = []
+
+abbrev pub bytesTold : List Told → List ℕ
+bytesTold [] = []
+bytesTold (session.report r ∷ l) = bytesOf r ++ bytesTold l
+bytesTold (session.answer a ∷ l) = bytesTold l
+
 unfoldable pub replyWorked : ReplyCase → ReplyCase
 replyWorked k =
-    record {
-      kind = k .kind;
-      raw = k .raw;
-      told = heard (session.tells link.fresh (session.call (k .kind) ∷ map session.raw (k .raw)));
-      reply = replyRead (k .kind) (k .bytes);
-      bytes = k .bytes;
-    }
+    let w = heard (session.tells link.fresh (session.call (k .kind) ∷ map session.raw (k .raw))) in
+    record { kind = k .kind; raw = k .raw; told = w; bytes = bytesTold w; reply = replyRead (k .kind) (bytesTold w) }
 
 -- C10 "its reply `01 00 00 01 9B 9B`": the reply to C9's OSARGS is A=1, block &0000019B.
 abbrev pub c10 : ReplyCase
 c10 =
     let s : List ℕ = 0x01 ∷ 0x00 ∷ 0x00 ∷ 0x01 ∷ 0x9B ∷ [] in
     record {
-      kind = kindIn 0x0C (0x9B ∷ 0x00 ∷ 0x00 ∷ 0x01 ∷ 0x9B ∷ 0x01 ∷ []);
+      kind = kindFrom 0x0C (0x9B ∷ 0x00 ∷ 0x00 ∷ 0x01 ∷ 0x9B ∷ 0x01 ∷ []);
       raw = 0x01 ∷ 0x00 ∷ 0x00 ∷ 0x01 ∷ 0x9B ∷ 0x9B ∷ [];
       told = session.answer link.begun ∷ session.report (link.reply s) ∷ [];
       bytes = s;
@@ -98,7 +127,7 @@ c10 =
 abbrev pub c13-reply : ReplyCase
 c13-reply =
     record {
-      kind = kindIn 0x08 (0x01 ∷ 0x00 ∷ 0x00 ∷ []);
+      kind = kindFrom 0x08 (0x01 ∷ 0x00 ∷ 0x00 ∷ []);
       raw = [];
       told = session.answer link.complete ∷ [];
       bytes = [];
@@ -108,12 +137,11 @@ c13-reply =
 -- C15 OSBGET waits, `80 9B 81 41` arrives: Escape on, then Cy 1, A &41.
 abbrev pub c15 : ReplyCase
 c15 =
-    let s : List ℕ = 0x80 ∷ 0x41 ∷ [] in
     record {
       kind = osbget;
       raw = 0x80 ∷ 0x9B ∷ 0x81 ∷ 0x41 ∷ [];
-      told = session.answer link.begun ∷ session.report (link.escapeState true) ∷ session.report (link.reply s) ∷ [];
-      bytes = s;
+      told = session.answer link.begun ∷ session.report (link.escapeState true) ∷ session.report (link.reply (0x80 ∷ 0x41 ∷ [])) ∷ [];
+      bytes = 0x80 ∷ 0x41 ∷ [];
       reply = given (carryA true 0x41) [] [];
     }
 

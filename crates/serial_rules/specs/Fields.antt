@@ -4,7 +4,8 @@ use mathlib.Core.Bool.{cond}
 use mathlib.Core.List.{List, []}
 use lib.Dec.{eqb}
 use lib.ListN.{length, getD, take, drop}
-use Rattle.serial_rules.specs.Call.{Call, osrdch, oscli, osbyteLow, osbyteHigh, osword, osword0, osargs, osbget, osbput, osfindClose, osfindOpen, osfile, osgbpb}
+use Rattle.serial_rules.specs.Marks.{isCode}
+use Rattle.serial_rules.specs.Call.{Call, osrdch, oscli, osbyteLow, osbyteHigh, osword, osword0, osargs, osbget, osbput, osfindClose, osfindOpen, osfile, osgbpb, fileBlock}
 
 pub record Fields : Type 0 where
   pub call : Call
@@ -33,6 +34,14 @@ fieldsOf code s =
     (cond (eqb code 0x0E) (fields (osbget (at s 0)) [] [])
     (cond (eqb code 0x10) (fields (osbput (at s 0) (at s 1)) [] [])
     (cond (eqb code 0x12) (cond (eqb (at s 0) 0) (fields (osfindClose (at s 1)) [] []) (fields (osfindOpen (at s 0)) [] (take (length s - 2) (drop 1 s))))
-    (cond (eqb code 0x14) (fields (osfile (last s)) (take 16 s) (take (length s - 18) (drop 16 s)))
+    (cond (eqb code 0x14) (fields (osfile (last s)) (take fileBlock s) (take (length s - 18) (drop fileBlock s)))
     (cond (eqb code 0x16) (fields (osgbpb (at s 13)) (take 13 s) [])
     (fields osrdch [] [])))))))))))
+
+-- What a code and a body ask: the fields of a request, or, of a code that no request has, nothing.
+pub data Asked : Type 0 where
+  asks : Fields → Asked
+  asksNothing : Asked
+
+unfoldable pub askedBy : ℕ → List ℕ → Asked
+askedBy code s = cond (isCode code) (asks (fieldsOf code s)) asksNothing

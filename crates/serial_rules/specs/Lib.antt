@@ -6,6 +6,7 @@ pub mod Lent
 pub mod Reader
 pub mod Stream
 pub mod Fields
+pub mod Places
 pub mod Reply
 pub mod Link
 pub mod Session

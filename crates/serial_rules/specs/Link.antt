@@ -23,7 +23,7 @@ pub data Report : Type 0 where
   restart : Report
   refusal : ℕ → Report
 
--- The actions that have bytes of their own, and how these end: "error number, text, &00", "Y X A follow", "4 address bytes".
+-- The actions that have bytes of their own, and how these end: "error number, text without &00 of 0 to 255 bytes, &00", "Y X A follow", "4 address bytes".
 pub data Action : Type 0 where
   failing : Action
   signal : Action
@@ -49,7 +49,7 @@ layer e d = record { escape = e; doing = d }
 -- What a raw byte is to the reply: nothing yet; a data byte outside an action; the end of an action that leaves the reply at its place;
 -- the end of an error or restart; or a byte that is refused.
 pub data Token : Type 0 where
-  within : Token
+  underway : Token
   datum : ℕ → Token
   acted : Report → Token
   failed : Report → Token
@@ -78,7 +78,7 @@ finish signal h b = acted (event (at h 0) (at h 1) b)
 finish place h b = acted (address (at h 0) (at h 1) (at h 2) b)
 
 abbrev pub ownByte : Action → List ℕ → ℕ → Turn → Seen
-ownByte a h b more = seen within (layer false (own a (h ++ (b ∷ []))))
+ownByte a h b more = seen underway (layer false (own a (h ++ (b ∷ []))))
 ownByte a h b done = seen (finish a h b) (layer false none)
 ownByte a h b (refused n) = seen (bad n) (layer false none)
 
@@ -87,7 +87,7 @@ dataSeen none b = seen (datum b) (layer false none)
 dataSeen (own a h) b = ownByte a h b (shapeTurn (ownShape a) (length h) b)
 
 abbrev pub opens : Action → Seen
-opens a = seen within (layer false (own a []))
+opens a = seen underway (layer false (own a []))
 
 -- "&80 to &8F (bit 0 is the Escape state)"; "Other low bits are ignored. All others give 4."
 unfoldable pub markOutside : ℕ → Seen
@@ -98,13 +98,13 @@ markOutside m =
     (cond (eqb (inwardClass m) addressMark) (opens place)
     (seen (bad 4) (layer false none)))))
 
--- 5: "mark inside an action's own bytes"
+-- 5: a mark "inside an action's own bytes"
 abbrev pub markSeen : Doing → ℕ → Seen
 markSeen none m = markOutside m
 markSeen (own a h) m = seen (bad 5) (layer false none)
 
 abbrev pub pieceSeen : Doing → Piece → Seen
-pieceSeen d pending = seen within (layer true d)
+pieceSeen d pending = seen underway (layer true d)
 pieceSeen d (dataByte b) = dataSeen d b
 pieceSeen d (mark m) = markSeen d m
 
@@ -146,15 +146,15 @@ replyTurned k s b done = met (reply (s ++ (b ∷ []))) (holds idleFrame)
 replyTurned k s b (refused n) = met (refusal n) halted
 
 -- "Data while idle is a character"; else it is the next byte of the reply
-abbrev pub taken : Frame → Wait → ℕ → Met
-taken f idle b = met (character b) (holds f)
-taken f (waiting k) b = replyTurned k (f .got) b (shapeTurn (shapeOf k) (length (f .got)) b)
+abbrev pub datumMet : Frame → Wait → ℕ → Met
+datumMet f idle b = met (character b) (holds f)
+datumMet f (waiting k) b = replyTurned k (f .got) b (shapeTurn (shapeOf k) (length (f .got)) b)
 
 -- What a token does. "The Escape state, event and address actions leave the waiting reply at its place. An error ends the waiting call
 -- with that error"; a restart "ends it too. While idle, actions are reported and the link stays idle."
 unfoldable pub meets : Frame → Token → Met
-meets f within = met needMore (holds f)
-meets f (datum b) = taken f (f .wait) b
+meets f underway = met needMore (holds f)
+meets f (datum b) = datumMet f (f .wait) b
 meets f (acted r) = met r (holds f)
 meets f (failed r) = met r (holds idleFrame)
 meets f (bad n) = met (refusal n) halted
@@ -174,7 +174,7 @@ pub record Step : Type 0 where
 abbrev pub gives : Report → Link → Step
 gives r l = record { report = r; next = l }
 
--- "A refused byte stops that reader until it is reset"
+-- a refused byte stops the link until it is reset (the customer's demand 1)
 abbrev pub linkAt : Layer → Standing → Link
 linkAt l halted = stopped
 linkAt l (holds f) = live l f
@@ -216,3 +216,12 @@ begins a l = record { answer = a; next = l }
 unfoldable pub begin : Link → Kind → Start
 begin stopped k = begins (denied 7) stopped
 begin (live l f) k = begins (enters f k .answer) (live l (enters f k .next))
+
+-- 4: "mark or request code not carried", of a call that is none: it is judged last, and nothing changes
+abbrev pub notCarriedAt : Wait → ℕ
+notCarriedAt (waiting k) = 12
+notCarriedAt idle = 4
+
+unfoldable pub beginNone : Link → Start
+beginNone stopped = begins (denied 7) stopped
+beginNone (live l f) = begins (denied (notCarriedAt (f .wait))) (live l f)

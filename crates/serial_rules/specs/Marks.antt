@@ -39,7 +39,8 @@ eventMark = 3
 abbrev pub addressMark : ℕ
 addressMark = 4
 
--- "&00 (error number, text, &00), &80 to &8F (bit 0 is the Escape state), &90 to &9F except &9B (Y X A follow), &C0 to &CF (4 address bytes)"
+-- "&00 (error number, text without &00 of 0 to 255 bytes, &00), &80 to &8F (bit 0 is the Escape state), &90 to &9F except &9B (Y X A follow), &C0 to
+-- &CF (4 address bytes, high first)"
 unfoldable pub inwardClass : ℕ → ℕ
 inwardClass m =
     cond (eqb m 0) errorMark
@@ -51,3 +52,12 @@ inwardClass m =
 -- the outward row's class: 1 starts a request, 0 is not carried
 unfoldable pub outwardClass : ℕ → ℕ
 outwardClass m = cond (startsRequest m) 1 notCarried
+
+-- the two rows of the table
+pub data Way : Type 0 where
+  outward : Way
+  inward : Way
+
+abbrev pub classOf : Way → ℕ → ℕ
+classOf outward m = outwardClass m
+classOf inward m = inwardClass m

@@ -29,7 +29,7 @@ pub record Step : Type 0 where
 abbrev pub gives : Answer → Reader → Step
 gives a r = record { answer = a; next = r }
 
--- "A refused byte stops that reader until it is reset"
+-- a refused byte stops the reader until it is reset (the customer's demand 1)
 abbrev pub stops : ℕ → Step
 stops n = gives (refusal n) stopped
 

@@ -4,12 +4,11 @@ use mathlib.Core.Bool.{Bool, true, false, cond, not, _&&_, _||_}
 use mathlib.Core.List.{List, [], _∷_, _++_}
 use lib.Dec.{eqb, ltb}
 use lib.ListN.{length, take, drop}
-use Rattle.serial_rules.specs.Escape.{escaped}
-use Rattle.serial_rules.specs.Marks.{bit}
+use Rattle.serial_rules.specs.Marks.{bit, isCode}
 use Rattle.serial_rules.specs.Call as call
-use Rattle.serial_rules.specs.Call.{return, stringLimit, hasReturn}
+use Rattle.serial_rules.specs.Call.{return, stringLimit, fileBlock, hasReturn, Carrier, carried}
 use Rattle.serial_rules.specs.Body.{Turn, more, done, refused, fixedTurn, stringTurn}
-use Rattle.serial_rules.specs.Fields.{at, last}
+use Rattle.serial_rules.specs.Fields.{at, fieldsOf}
 
 -- "the call's kind and out length fix how its reply is read": thirteen kinds, OSFIND twice
 pub data Kind : Type 0 where
@@ -43,20 +42,16 @@ kindOf (call.osfile a) = osfile
 kindOf (call.osgbpb a) = osgbpb
 
 -- the kind of a finished request, by its code and body
-unfoldable pub kindIn : ℕ → List ℕ → Kind
-kindIn code s =
-    cond (eqb code 0x02) oscli
-    (cond (eqb code 0x04) osbyteLow
-    (cond (eqb code 0x06) osbyteHigh
-    (cond (eqb code 0x08) (osword (last s))
-    (cond (eqb code 0x0A) osword0
-    (cond (eqb code 0x0C) osargs
-    (cond (eqb code 0x0E) osbget
-    (cond (eqb code 0x10) osbput
-    (cond (eqb code 0x12) (cond (eqb (at s 0) 0) osfindClose osfindOpen)
-    (cond (eqb code 0x14) osfile
-    (cond (eqb code 0x16) osgbpb
-    osrdch))))))))))
+abbrev pub kindFrom : ℕ → List ℕ → Kind
+kindFrom code s = kindOf (fieldsOf code s .call)
+
+-- a code that no request has is no call
+pub data Found : Type 0 where
+  known : Kind → Found
+  noCall : Found
+
+unfoldable pub kindIn : ℕ → List ℕ → Found
+kindIn code s = cond (isCode code) (known (kindFrom code s)) noCall
 
 -- How bytes that belong together end: so many of them; a line, behind one byte that may say that there is none; a text, behind one number.
 pub data Shape : Type 0 where
@@ -96,6 +91,16 @@ abbrev pub longest : Shape → ℕ
 longest (fixed k) = k
 longest line = 257
 longest text = 257
+
+-- The byte b of a reply on the parallel side, behind the bytes s of it so far: there are no escapes and no actions, so that each byte is one of
+-- the reply. 7 where the reply has had all its bytes; one with out length 0 has none.
+unfoldable pub replyTurn : Kind → List ℕ → ℕ → Turn
+replyTurn k s b = cond (ltb (length s) (longest (shapeOf k))) (shapeTurn (shapeOf k) (length s) b) (refused 7)
+
+-- the turns of bytes, one by one, behind the bytes s
+unfoldable pub replyTurns : Kind → List ℕ → List ℕ → List Turn
+replyTurns k s [] = []
+replyTurns k s (b ∷ l) = replyTurn k s b ∷ replyTurns k (s ++ (b ∷ [])) l
 
 -- A reply with its numbers; its block and its string stand beside it.
 pub data Reply : Type 0 where
@@ -172,7 +177,7 @@ blockIn osbget = 0
 blockIn osbput = 0
 blockIn osfindClose = 0
 blockIn osfindOpen = 0
-blockIn osfile = 16
+blockIn osfile = fileBlock
 blockIn osgbpb = 13
 
 -- whether the reply has a string
@@ -192,12 +197,16 @@ hasLine (blockCarryA c a) = false
 unfoldable pub replyOk : Kind → Reply → List ℕ → List ℕ → Bool
 replyOk kind r b t = eqb (formIn r) (formOf kind) && (eqb (length b) (blockIn kind) && ((hasLine r || eqb (length t) 0) && not (hasReturn t)))
 
+-- the bytes of a reply on a carrier: on the parallel side "no escapes"
+unfoldable pub replyEncoding : Carrier → Reply → List ℕ → List ℕ → List ℕ
+replyEncoding carrier r b t = carried carrier (replyBytes r b t)
+
 -- The number of the writer's answer, "Writer: 6, 9, 8", where `room` bytes are lent.
-unfoldable pub replyNumber : Kind → Reply → List ℕ → List ℕ → ℕ → ℕ
-replyNumber kind r b t room =
+unfoldable pub replyNumber : Carrier → Kind → Reply → List ℕ → List ℕ → ℕ → ℕ
+replyNumber carrier kind r b t room =
     cond (ltb stringLimit (length t)) 6
     (cond (not (replyOk kind r b t)) 9
-    (cond (ltb room (length (escaped (replyBytes r b t)))) 8 0))
+    (cond (ltb room (length (replyEncoding carrier r b t))) 8 0))
 
 -- A reply read: its numbers, its block and its string.
 pub record Given : Type 0 where

@@ -10,7 +10,7 @@ use Rattle.serial_rules.specs.Marks.{bit, inwardClass, escapeMark, event
 use Rattle.serial_rules.specs.Call.{stringLimit}
 use Rattle.serial_rules.specs.Reply.{Kind}
 use Rattle.serial_rules.specs.Link as link
-use Rattle.serial_rules.specs.Link.{Report, needMore, refusal, escapeState, Layer, Token, within, datum, acted, failed, bad, failure, look, Frame, Standing, halted, holds, meets, Link, live, fresh, step, Begun, denied, enters, begin}
+use Rattle.serial_rules.specs.Link.{Report, needMore, refusal, escapeState, Layer, Token, underway, datum, acted, failed, bad, failure, look, Frame, Standing, halted, holds, meets, Link, live, fresh, step, Begun, denied, enters, begin}
 
 pub data Input : Type 0 where
   raw : ℕ → Input
@@ -80,7 +80,7 @@ standsAfter S (s ∷ l) = standsAfter (standsBy S s) l
 -- The signs without those that leave the reply at its place: need-more, and the Escape state, event and address actions.
 unfoldable pub movers : List Sign → List Sign
 movers [] = []
-movers (token within ∷ l) = movers l
+movers (token underway ∷ l) = movers l
 movers (token (datum b) ∷ l) = token (datum b) ∷ movers l
 movers (token (acted r) ∷ l) = movers l
 movers (token (failed r) ∷ l) = token (failed r) ∷ movers l
@@ -90,7 +90,7 @@ movers (began k ∷ l) = began k ∷ movers l
 -- what is said of the movers, with each action's report put back in its place
 unfoldable pub woven : List Sign → List Told → List Told
 woven [] w = []
-woven (token within ∷ l) w = report needMore ∷ woven l w
+woven (token underway ∷ l) w = report needMore ∷ woven l w
 woven (token (acted r) ∷ l) w = report r ∷ woven l w
 woven (token (datum b) ∷ l) [] = []
 woven (token (datum b) ∷ l) (x ∷ w) = x ∷ woven l w
@@ -176,20 +176,20 @@ withoutActions (address m b3 b2 b1 b0 ∷ ps) = withoutActions ps
 withoutActions (error n t ∷ ps) = error n t ∷ withoutActions ps
 
 -- between the parts of a stream: no escape was seen, and no action is open
-abbrev pub rest : Layer
-rest = link.layer false link.none
+abbrev pub between : Layer
+between = link.layer false link.none
 
 -- "The Escape state, event and address actions leave the waiting reply at its place." On a stream with such actions anywhere between its data
 -- bytes, errors and begun calls, a link tells what it tells without them, at the same data byte, and each of them in its place; and it is left
 -- as without them.
 pub record Actions-pass (f : Frame) (ps : List Part) : Type 0 where
-  pub told : tells (live rest f) (inputs ps) ≡ spread ps (woven (map signOf ps) (says (holds f) (map signOf (withoutActions ps))))
-  pub plain : tells (live rest f) (inputs (withoutActions ps)) ≡ spread (withoutActions ps) (says (holds f) (map signOf (withoutActions ps)))
-  pub left : linkAfter (live rest f) (inputs ps) ≡ linkAfter (live rest f) (inputs (withoutActions ps))
+  pub told : tells (live between f) (inputs ps) ≡ spread ps (woven (map signOf ps) (says (holds f) (map signOf (withoutActions ps))))
+  pub plain : tells (live between f) (inputs (withoutActions ps)) ≡ spread (withoutActions ps) (says (holds f) (map signOf (withoutActions ps)))
+  pub left : linkAfter (live between f) (inputs ps) ≡ linkAfter (live between f) (inputs (withoutActions ps))
 
 -- "An error ends the waiting call with that error": with an error or restart in the stream the link tells it at its last byte, and goes on as
 -- a fresh one, so that no byte behind is taken for the reply.
 pub record Error-ends (f : Frame) (ps : List Part) (n : ℕ) (t : List ℕ) (qs : List Part) : Type 0 where
-  pub told : tells (live rest f) (inputs (ps ++ (error n t ∷ qs)))
-      ≡ tells (live rest f) (inputs ps) ++ (fill (report needMore) (behind (inputsOf (error n t))) ++ (report (failure n t) ∷ tells fresh (inputs qs)))
-  pub left : linkAfter (live rest f) (inputs (ps ++ (error n t ∷ qs))) ≡ linkAfter fresh (inputs qs)
+  pub told : tells (live between f) (inputs (ps ++ (error n t ∷ qs)))
+      ≡ tells (live between f) (inputs ps) ++ (fill (report needMore) (behind (inputsOf (error n t))) ++ (report (failure n t) ∷ tells fresh (inputs qs)))
+  pub left : linkAfter (live between f) (inputs (ps ++ (error n t ∷ qs))) ≡ linkAfter fresh (inputs qs)

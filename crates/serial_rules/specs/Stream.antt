@@ -64,7 +64,7 @@ accepted (request style code s ∷ l) = accepted l
 accepted (refusal n ∷ l) = ⊥
 
 -- On the stream l a reader answers `need-more` until the byte that gives a; `rest` is left behind that byte, for the reader q.
-pub record Gives (carrier : Carrier) (r : Reader) (l : List ℕ) (a : Answer) (q : Reader) (rest : List ℕ) : Type 0 where
+pub record First-answer (carrier : Carrier) (r : Reader) (l : List ℕ) (a : Answer) (q : Reader) (rest : List ℕ) : Type 0 where
   pub waits : ℕ
   pub answers-are : answers carrier r l ≡ replicate waits needMore ++ (a ∷ answers carrier q rest)
   pub place : length l ≡ waits + 1 + length rest

@@ -6,7 +6,7 @@ ghost use Rattle.serial_rules.specs.Reply.{line, text, shapeTurn, longest};
 use strings::Text;
 use turns::Turn;
 ghost use Rattle.turns.specs.Turns.{turnOf};
-ghost use Rattle.shapes.specs.Shapes.{shapeFor};
+ghost use Rattle.shapes.specs.Shapes.{shapeFor, longestShape};
 ghost use Rattle.shapes.specs.Ahead.{aheadOf};
 
 // How bytes that belong together end: so many of them; a line behind one byte; a text behind one number.
@@ -22,7 +22,7 @@ impl Shape {
 
     // The most bytes that one has.
     pub fn longest(self) -> usize
-        ensures { λ r. ⌜ (r ≡ longest (shapeFor self)) × (r ≤ 257) ⌝ }
+        ensures { λ r. ⌜ (r ≡ longest (shapeFor self)) × (r ≤ longestShape) ⌝ }
     {
         match self {
             Shape::Fixed(n) => n as usize,
@@ -33,7 +33,7 @@ impl Shape {
 
     // How many bytes behind the first n need more, whatever they are but an escape or a return.
     pub fn ahead(self, n: usize) -> usize
-        ensures { λ r. ⌜ (r ≡ aheadOf (shapeFor self) n) × (n < longest (shapeFor self) → n + r ≤ 257) ⌝ }
+        ensures { λ r. ⌜ (r ≡ aheadOf (shapeFor self) n) × (n < longest (shapeFor self) → n + r ≤ longestShape) ⌝ }
     {
         match self {
             Shape::Fixed(k) => before_last(n, k as usize),

@@ -6,10 +6,13 @@ use flat_link::FlatLink;
 use flat_link::FlatTold;
 use flat_reader::FlatRead;
 use flat_reader::FlatReader;
+use kind::CallKind;
+use link::Link;
+use request_reader::Reader;
 
 // One raw byte to a request reader: see `flat_request::read`.
 #[no_mangle]
-pub extern "C" fn tube_read(reader: FlatReader, raw: u8, body: &mut [u8; 273]) -> FlatRead
+pub extern "C" fn tube_read(reader: FlatReader, raw: u8, body: &mut [u8; Reader::BODY]) -> FlatRead
     ensures { λ r. ⌜ Flat-done reader (now (body .entry)) raw r (now (body .exit)) ⌝ }
 {
     flat_request::read(reader, raw, body)
@@ -20,8 +23,8 @@ pub extern "C" fn tube_read(reader: FlatReader, raw: u8, body: &mut [u8; 273]) -
 pub extern "C" fn tube_link_step(
     link: FlatLink,
     raw: u8,
-    reply: &mut [u8; 257],
-    own: &mut [u8; 257],
+    reply: &mut [u8; CallKind::REPLY],
+    own: &mut [u8; Link::OWN],
 ) -> FlatTold
     ensures { λ r. ⌜ Flat-step-done link (now (reply .entry)) (now (own .entry)) raw r (now (reply .exit)) (now (own .exit)) ⌝ }
 {

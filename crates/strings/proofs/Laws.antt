@@ -1,5 +1,5 @@
 -- What the two scans of a string meet at their next byte, and that the name is found.
-use Prim.Native.Nat.{ℕ, suc, _+_, _-_, _≤_, _<_}
+use Prim.Native.Nat.{ℕ, suc, _+_, _≤_, _<_}
 use native.Mathlib.Numerals.{add-one}
 use native.Mathlib.Nat.{add-zero, zero-add}
 use native.Mathlib.Omega.{arith}
@@ -8,11 +8,11 @@ use mathlib.Core.Bool.{Bool, true, false, not, _||_, or-assoc, or-false}
 use mathlib.Core.List.{List, [], _∷_, _++_}
 use borrow.Author.Tests.{eqb-true, eq-eqb, ne-eqb, le-leb, lt-leb, not-true}
 use lib.Dec.{eqb}
-use lib.ListN.{length, take, drop, getD, length-drop, drop-of-length-le}
-use lib.Seq.{drop-cons, take-all, drop-at}
+use lib.ListN.{length, drop, getD, drop-of-length-le}
+use lib.Seq.{drop-cons, drop-at}
 use Rattle.serial_rules.specs.Call.{osfile, return, stringLimit, bodyOf, blockOk, hasReturn, callOk}
 use Rattle.serial_rules.specs.Fields.{fieldsOf, last}
-use Rattle.serial_rules.proofs.Finished.{Rewritten}
+use Rattle.serial_rules.proofs.Finished.{Request-rewritten}
 use Rattle.serial_rules.proofs.Trip.{and-both, or-false as both-false}
 use Rattle.strings.specs.declared.Text.the-variants.{Found, Refused}
 use Rattle.strings.specs.Text.{stringFrom, nameOf}
@@ -53,10 +53,6 @@ no-name body h =
     let short : length body ≤ 16 = omega (arith, h) in
     rw (drop-of-length-le body short)
 
--- the part of a body from n on is all that stands there
-pub rest : (n : ℕ) (body : List ℕ) → take (length body - n) (drop n body) ≡ drop n body
-rest n body = take-all (length body - n) (drop n body) (omega (arith, length-drop n body))
-
 -- In a whole body of OSFILE the scan finds the name: after a string without &0D and of at most 255 bytes, its &0D.
 string-found : (n : ℕ) (t rest : List ℕ) → n + length t ≤ stringLimit → hasReturn t ≡ false → stringFrom n (t ++ (return ∷ rest)) ≡ Found (n + length t)
 unfolding stringFrom hasReturn
@@ -75,7 +71,7 @@ name-found a b t ok h =
     rw (drop-at b (t ++ (return ∷ a ∷ [])) 16 (eqb-true _ _ (p .0)), ← zero-add (length t)) (string-found 0 t (a ∷ []) (omega (arith, h)) (not-true (hasReturn t) (p .1)))
 
 -- and so in every OSFILE that a reader finishes: the name found is the string of its fields
-pub finished-name : (body : List ℕ) → Rewritten 0x14 body → nameOf body ≡ Found (length (fieldsOf 0x14 body .text))
+pub finished-name : (body : List ℕ) → Request-rewritten 0x14 body → nameOf body ≡ Found (length (fieldsOf 0x14 body .text))
 unfolding fieldsOf
 finished-name body w =
     let f = fieldsOf 0x14 body in

@@ -1,10 +1,10 @@
--- A string in a whole body: "The name is read from the part of the body that starts after the block".
+-- A string in a whole body: "the name is read from the part of the body that starts after the block".
 use Prim.Native.Nat.{ℕ, _+_}
 use mathlib.Core.Bool.{cond}
 use mathlib.Core.List.{List, [], _∷_}
 use lib.Dec.{eqb, leb}
 use lib.ListN.{drop}
-use Rattle.serial_rules.specs.Call.{return, stringLimit}
+use Rattle.serial_rules.specs.Call.{return, stringLimit, fileBlock}
 use Rattle.strings.specs.declared.Text.{Text}
 use Rattle.strings.specs.declared.Text.the-variants.{Found, Refused}
 
@@ -14,6 +14,6 @@ unfoldable pub stringFrom : ℕ → List ℕ → Text
 stringFrom n [] = Refused 9
 stringFrom n (x ∷ l) = cond (eqb x return) (Found n) (cond (leb stringLimit n) (Refused 6) (stringFrom (n + 1) l))
 
--- the name of OSFILE, behind its block of 16 bytes
+-- the name of OSFILE, behind its block
 abbrev pub nameOf : List ℕ → Text
-nameOf body = stringFrom 0 (drop 16 body)
+nameOf body = stringFrom 0 (drop fileBlock body)

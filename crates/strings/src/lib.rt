@@ -17,7 +17,7 @@ impl Text {
     // The byte that ends a string.
     pub const RETURN: u8 = 0x0D;
     // The block before OSFILE's name.
-    const FILE_BLOCK: usize = 16;
+    pub const FILE_BLOCK: usize = 16;
 }
 
 // The name in a body of OSFILE; it starts after the block.

@@ -11,17 +11,23 @@ ghost use Rattle.flat_request_writer.specs.Calls.{callAt, Flat-request-done};
 ghost use Rattle.flat_kind.specs.Kinds.{kindAt, Flat-kind-done};
 ghost use Rattle.flat_link.specs.Links.{freshLink, Flat-begin-done};
 ghost use Rattle.flat_link.specs.Runs.{Flat-run-done};
-ghost use Rattle.flat_reply.specs.Replies.{replyAt, Flat-reply-done, Flat-read-done};
+ghost use Rattle.flat_reply.specs.Replies.{replyAt, Flat-reply-done, Flat-read-done, Flat-take-done};
+ghost use Rattle.flat_asked.specs.Asks.{Flat-asked-done};
 use chip::Chip;
 use flat::FlatName;
 use flat::FlatWritten;
+use flat_asked::FlatAsked;
 use flat_kind::FlatKind;
 use flat_link::FlatBegun;
 use flat_link::FlatLink;
 use flat_link::FlatRan;
 use flat_reader::FlatReader;
 use flat_reply::FlatGiven;
+use flat_reply::FlatTaken;
 use flat_request::FlatFed;
+use kind::CallKind;
+use link::Link;
+use request_reader::Reader;
 use script::Played;
 
 // Plays a script: see `script::play`.
@@ -50,7 +56,11 @@ pub extern "C" fn tube_reader(carrier: u8) -> FlatReader
 
 // Raw bytes up to the first answer that is not need-more: see `flat_request::feed`.
 #[no_mangle]
-pub extern "C" fn tube_feed(reader: FlatReader, raw: &[u8], body: &mut [u8; 273]) -> FlatFed
+pub extern "C" fn tube_feed(
+    reader: FlatReader,
+    raw: &[u8],
+    body: &mut [u8; Reader::BODY],
+) -> FlatFed
     ensures { λ r. ⌜ Flat-feed-done reader (now (body .entry)) (now (raw .entry)) r (now (body .exit)) ⌝ }
 {
     flat_request::feed(reader, raw, body)
@@ -104,8 +114,8 @@ pub extern "C" fn tube_begin(link: FlatLink, call: u8, out_length: u8) -> FlatBe
 pub extern "C" fn tube_run(
     link: FlatLink,
     raw: &[u8],
-    reply: &mut [u8; 257],
-    own: &mut [u8; 257],
+    reply: &mut [u8; CallKind::REPLY],
+    own: &mut [u8; Link::OWN],
     room: &mut [u8],
 ) -> FlatRan
     ensures { λ r. ⌜ Flat-run-done link (now (reply .entry)) (now (own .entry)) (now (raw .entry)) (now (room .entry)) r (now (reply .exit)) (now (own .exit)) (now (room .exit)) ⌝ }
@@ -116,6 +126,7 @@ pub extern "C" fn tube_run(
 // Writes a reply: see `flat_reply::write_reply`.
 #[no_mangle]
 pub extern "C" fn tube_write_reply(
+    carrier: u8,
     call: u8,
     out_length: u8,
     reply: u8,
@@ -127,9 +138,35 @@ pub extern "C" fn tube_write_reply(
     text: &[u8],
     out: &mut [u8],
 ) -> FlatWritten
-    ensures { λ r. ⌜ Flat-reply-done call (kindAt call «out_length») reply (replyAt reply carry x y a) (now (block .entry)) (now (text .entry)) (now (out .entry)) r (now (out .exit)) ⌝ }
+    ensures { λ r. ⌜ Flat-reply-done carrier call (kindAt call «out_length») reply (replyAt reply carry x y a) (now (block .entry)) (now (text .entry)) (now (out .entry)) r (now (out .exit)) ⌝ }
 {
-    flat_reply::write_reply(call, out_length, reply, carry, x, y, a, block, text, out)
+    flat_reply::write_reply(
+        carrier,
+        call,
+        out_length,
+        reply,
+        carry,
+        x,
+        y,
+        a,
+        block,
+        text,
+        out,
+    )
+}
+
+// One byte of a reply on the parallel side: see `flat_reply::reply_step`.
+#[no_mangle]
+pub extern "C" fn tube_reply_step(
+    call: u8,
+    out_length: u8,
+    count: u16,
+    byte: u8,
+    reply: &mut [u8; CallKind::REPLY],
+) -> FlatTaken
+    ensures { λ r. ⌜ Flat-take-done call (kindAt call «out_length») count byte (now (reply .entry)) r (now (reply .exit)) ⌝ }
+{
+    flat_reply::reply_step(call, out_length, count, byte, reply)
 }
 
 // The fields of a finished reply: see `flat_reply::read_reply`.
@@ -138,6 +175,14 @@ pub extern "C" fn tube_read_reply(call: u8, out_length: u8, bytes: &[u8]) -> Fla
     ensures { λ r. ⌜ Flat-read-done call (kindAt call «out_length») (now (bytes .entry)) r ⌝ }
 {
     flat_reply::read_reply(call, out_length, bytes)
+}
+
+// The fields of a finished request: see `flat_asked::read_request`.
+#[no_mangle]
+pub extern "C" fn tube_read_request(code: u8, body: &[u8]) -> FlatAsked
+    ensures { λ r. ⌜ Flat-asked-done code (now (body .entry)) r ⌝ }
+{
+    flat_asked::read_request(code, body)
 }
 
 // The kind of a finished request: see `flat_kind::kind_of`.

@@ -1,6 +1,6 @@
 -- The tests are the rule's, on the part of the body behind the block, which is the list without its first 16 bytes.
 use Rattle.serial_rules.specs.Body.{ended}
-use Rattle.bodies.proofs.Bytes.{tail}
+use Rattle.serial_rules.proofs.Lent.{take-behind}
 use mathlib.Core.Path.{sym, ap, _∙_}
 use denote.Ref.{now}
 use borrow.Author.Tests.{le-ltb, lt-ltb}
@@ -26,7 +26,7 @@ name-ended-requires c κs = search needs
 returns-2 : tie.Need-returns-2
 returns-2 c =
     let q = c .before in
-    let name = ap ended (tail 16 (now (q .before .before .before .before .args .s))) in
+    let name = ap ended (take-behind 16 (now (q .before .before .before .before .args .s))) in
     simp (le-ltb _ _ (q .before .before .if1 .left), sym name ∙ sym (q .name-ended .ensures) ∙ c .if2 .taken)
 
 name-turn-requires : tie.Need-name-turn-requires
@@ -35,7 +35,7 @@ name-turn-requires c κs = search needs
 returns-3 : tie.Need-returns-3
 returns-3 c =
     let q = c .before .before in
-    let name = ap ended (tail 16 (now (q .before .before .before .before .args .s))) in
+    let name = ap ended (take-behind 16 (now (q .before .before .before .before .args .s))) in
     c .name-turn .ensures ∙ simp (le-ltb _ _ (q .before .before .if1 .left), sym name ∙ sym (q .name-ended .ensures) ∙ c .before .if2 .left)
 
 pub file-turn-spec : {M : Type 1} → statement M

@@ -3,8 +3,8 @@ use borrow.Author.Needs.{needs}
 use Rattle.flat_reader.proofs.flattened.Statement.{statement}
 use Rattle.flat_reader.proofs.flattened.Tie as tie
 
-carrier-number-requires : tie.Need-carrier-number-requires
-carrier-number-requires c κs = search needs
+number-requires : tie.Need-number-requires
+number-requires c κs = search needs
 
 phase-number-requires : tie.Need-phase-number-requires
 phase-number-requires c κs = search needs
@@ -13,9 +13,9 @@ flag-number-requires : tie.Need-flag-number-requires
 flag-number-requires c κs = search needs
 
 returns : tie.Need-returns
-returns c = rw (c .before .before .carrier-number .ensures, c .before .phase-number .ensures, c .flag-number .ensures)
+returns c = rw (c .before .before .number .ensures, c .before .phase-number .ensures, c .flag-number .ensures)
 
 pub flattened-spec : {M : Type 1} → statement M
 flattened-spec =
     tie.close
-    (tie.spec carrier-number-requires phase-number-requires flag-number-requires returns)
+    (tie.spec number-requires phase-number-requires flag-number-requires returns)

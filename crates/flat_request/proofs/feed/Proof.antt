@@ -1,6 +1,6 @@
--- With the tags in range this is the reader's chain of steps, flat; with one out of range a byte is refused, and an empty slice needs more.
+-- With the numbers in range this is the reader's own loop, flat; with one out of range a byte is refused, and an empty slice needs more.
 use mathlib.Core.Path.{sym, _∙_}
-use Rattle.flat_request.proofs.Readers.{read-slice, nothing-fed, slice-out-of-range}
+use Rattle.flat_request.proofs.Readers.{fed-known, fed-none, fed-unknown}
 use borrow.Author.Needs.{needs}
 use Rattle.flat_request.proofs.feed.Statement.{statement}
 use Rattle.flat_request.proofs.feed.Tie as tie
@@ -20,19 +20,19 @@ flat-answer-requires c κs = search needs
 returns : tie.Need-returns
 returns c =
     let s = c .before .before .before .before in
-    read-slice (sym (s .before .before .has-tags .ensures) ∙ s .before .if1 .taken) (s .unflattened .ensures) (c .flat-answer .ensures) (c .before .before .feed .ensures)
+    fed-known (sym (s .before .before .has-tags .ensures) ∙ s .before .if1 .taken) (s .unflattened .ensures) (c .before .before .feed .ensures) (c .flat-answer .ensures)
 
 flat-read-requires : tie.Need-flat-read-requires
 flat-read-requires c κs = search needs
 
 returns-2 : tie.Need-returns-2
-returns-2 c = nothing-fed (c .before .if2 .taken) (c .flat-read .ensures)
+returns-2 c = fed-none (sym (c .before .before .before .has-tags .ensures) ∙ c .before .before .if1 .left) (c .before .if2 .taken) (c .flat-read .ensures)
 
 flat-read-requires-2 : tie.Need-flat-read-requires-2
 flat-read-requires-2 c κs = search needs
 
 returns-3 : tie.Need-returns-3
-returns-3 c = slice-out-of-range (sym (c .before .before .before .has-tags .ensures) ∙ c .before .before .if1 .left) (c .before .if2 .left) (c .flat-read2 .ensures)
+returns-3 c = fed-unknown (sym (c .before .before .before .has-tags .ensures) ∙ c .before .before .if1 .left) (c .before .if2 .left) (c .flat-read2 .ensures)
 
 pub feed-spec : {M : Type 1} → statement M
 feed-spec =

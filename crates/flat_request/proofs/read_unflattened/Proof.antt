@@ -1,6 +1,6 @@
 -- With the tags in range this is a step of the reader, with one out of range the refusal of a stopped one.
 use mathlib.Core.Path.{sym, _∙_}
-use Rattle.flat_request.proofs.Readers.{read-byte, out-of-range}
+use Rattle.flat_request.proofs.Readers.{read-known, read-unknown}
 use borrow.Author.Needs.{needs}
 use Rattle.flat_request.proofs.read_unflattened.Statement.{statement}
 use Rattle.flat_request.proofs.read_unflattened.Tie as tie
@@ -8,10 +8,10 @@ use Rattle.flat_request.proofs.read_unflattened.Tie as tie
 returns : tie.Need-returns
 returns c =
     let s = c .before .before .before .before in
-    read-byte (sym (s .before .before .has-tags .ensures) ∙ s .before .if1 .taken) (s .unflattened .ensures) (c .flat-answer .ensures) (c .before .before .step .ensures)
+    read-known (sym (s .before .before .has-tags .ensures) ∙ s .before .if1 .taken) (s .unflattened .ensures) (c .before .before .step .ensures) (c .flat-answer .ensures)
 
 returns-2 : tie.Need-returns-2
-returns-2 c = out-of-range (sym (c .before .before .has-tags .ensures) ∙ c .before .if1 .left) (c .flat-read .ensures)
+returns-2 c = read-unknown (sym (c .before .before .has-tags .ensures) ∙ c .before .if1 .left) (c .flat-read .ensures)
 
 pub read-unflattened-spec : {M : Type 1} → statement M
 read-unflattened-spec =

@@ -1,20 +1,18 @@
--- A body of no byte counts as one that starts with 0, as the rule reads it; else the test is the rule's.
-use native.Mathlib.Omega.{arith}
-use lib.ListN.{List·getD-eq-default}
-use denote.Ref.{now}
+-- The test is the rule's.
+use mathlib.Core.Path.{sym, _∙_}
 use borrow.Author.Tests.{eq-eqb, ne-eqb}
 use borrow.Author.Needs.{needs}
+use Rattle.serial_rules.specs.Fields.{fieldsOf}
 use Rattle.kind.proofs.find_kind.Statement.{statement}
 use Rattle.kind.proofs.find_kind.Tie as tie
 
 returns : tie.Need-returns
-returns c = simp (List·getD-eq-default (now (c .before .args .body)) 0 {n = 0} (omega arith))
+unfolding fieldsOf
+returns c = simp (eq-eqb _ _ (sym (c .before .byte-at .ensures) ∙ c .if1 .taken))
 
 returns-2 : tie.Need-returns-2
-returns-2 c = simp (eq-eqb _ _ (c .if2 .taken))
-
-returns-3 : tie.Need-returns-3
-returns-3 c = simp (ne-eqb _ _ (c .if2 .left))
+unfolding fieldsOf
+returns-2 c = simp (ne-eqb _ _ (λ e. c .if1 .left (c .before .byte-at .ensures ∙ e)))
 
 pub find-kind-spec : {M : Type 1} → statement M
-find-kind-spec = tie.close (tie.spec returns (λ c. search needs) returns-2 returns-3)
+find-kind-spec = tie.close (tie.spec (λ c κs. search needs) returns returns-2)

@@ -1,6 +1,6 @@
 -- The invariant: the first `i` raw bytes were read in a chain of steps, and each needed more. A turn adds one step at its end, and the run of plain bytes behind it; any other answer ends the loop.
 use Rattle.request_loop.proofs.Feeds.{passes, pass-within, again, answered, needs-more}
-use Rattle.request_loop.proofs.Plains.{still-within}
+use Rattle.request_loop.proofs.Plains.{still-keeps}
 use denote.Ref.{now}
 use Prim.Native.Nat.{_+_, _≤_, _-_}
 use native.Mathlib.Omega.{arith}
@@ -33,7 +33,7 @@ enum-told : tie.Need-enum-told Inv-loop μ-loop
 enum-told c = search needs
 
 pass-requires : tie.Need-pass-requires Inv-loop μ-loop
-pass-requires c κs = let q = c .before .before in (still-within (q .before .before .before .step .ensures) (q .enum-told .given .1), search needs)
+pass-requires c κs = let q = c .before .before in (still-keeps (q .before .before .before .step .ensures) (q .enum-told .given .1), search needs)
 
 -- the bytes up to the end of the run lie within the slice
 add-i-2 : tie.Need-add-i-2 Inv-loop μ-loop

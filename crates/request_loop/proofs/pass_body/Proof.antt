@@ -4,19 +4,19 @@ use Prim.Native.Nat.{_+_, _-_}
 use native.Mathlib.Omega.{arith}
 use mathlib.Core.Path.{sym}
 use lib.Seq.{length-take-le}
-use Rattle.request_reader.proofs.Steps.{within-room}
+use Rattle.request_reader.proofs.Steps.{inside-room}
 use Rattle.request_loop.proofs.Plains.{ahead-of, passes-plain, end-fits}
 use borrow.Author.Needs.{needs}
 use Rattle.request_loop.proofs.pass_body.Statement.{statement}
 use Rattle.request_loop.proofs.pass_body.Tie as tie
 
 slice-reshare-prefix-ahead : tie.Need-slice-reshare-prefix-ahead
-slice-reshare-prefix-ahead c = let s = c .before .before .before in let room = within-room (s .args .reader) (s .pre .1) in search needs
+slice-reshare-prefix-ahead c = let s = c .before .before .before in let room = inside-room (s .args .reader) (s .pre .1) in search needs
 
 slice-aggregate-ahead : tie.Need-slice-aggregate-ahead
 slice-aggregate-ahead c =
     let s = c .before .before .before .before in
-    let room = within-room (s .args .reader) (s .pre .1) in
+    let room = inside-room (s .args .reader) (s .pre .1) in
     sym (length-take-le (s .args .reader .count) (now (s .args .body)) (omega arith))
 
 add-end : tie.Need-add-end

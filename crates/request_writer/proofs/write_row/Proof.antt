@@ -9,28 +9,28 @@ use Rattle.request_writer.proofs.write_row.Tie as tie
 mul-t13 : tie.Need-mul-t13
 mul-t13 c =
     let s = c .before .before .before in
-    omega (arith, style-fits (s .args .serial) (s .args .style) (s .pre .style-kept))
+    omega (arith, style-fits (s .args .carrier) (s .args .style) (s .pre .style-kept))
 
 add-t14 : tie.Need-add-t14
 add-t14 c =
     let s = c .before .before .before .before in
-    omega (arith, style-fits (s .args .serial) (s .args .style) (s .pre .style-kept), s .pre .code-small)
+    omega (arith, style-fits (s .args .carrier) (s .args .style) (s .pre .style-kept), s .pre .code-small)
 
-sub-write-length : tie.Need-sub-write-length
-sub-write-length c = omega (arith, start-fits (c .before .before .before .before .before .before .before .args .serial) (c .before .before .head-start .ensures))
+sub-write-fields : tie.Need-sub-write-fields
+sub-write-fields c = omega (arith, start-fits (c .before .before .before .before .before .before .before .args .carrier) (c .before .before .head-start .ensures))
 
-part-write-length-start : tie.Need-part-write-length-start
-part-write-length-start c =
-    let h = start-fits (c .before .before .before .before .before .before .before .before .args .serial) (c .before .before .before .head-start .ensures) in
+part-write-fields-start : tie.Need-part-write-fields-start
+part-write-fields-start c =
+    let h = start-fits (c .before .before .before .before .before .before .before .before .args .carrier) (c .before .before .before .head-start .ensures) in
     omega arith
 
-slice-aggregate-write-length : tie.Need-slice-aggregate-write-length
-slice-aggregate-write-length c =
+slice-aggregate-write-fields : tie.Need-slice-aggregate-write-fields
+slice-aggregate-write-fields c =
     let h = c .before .before .before .before .before .before .before .before .before .before .pre .before-fits in
     simp length-take (omega arith)
 
-slice-aggregate-write-length-2 : tie.Need-slice-aggregate-write-length-2
-slice-aggregate-write-length-2 c =
+slice-aggregate-write-fields-2 : tie.Need-slice-aggregate-write-fields-2
+slice-aggregate-write-fields-2 c =
     let h = c .before .before .before .before .before .before .before .before .before .before .before .pre .behind-fits in
     simp length-take (omega arith)
 
@@ -38,7 +38,7 @@ returns : tie.Need-returns
 returns c =
     let h = c .before .before .before .before .before .before .before .before .before .before in
     let s = h .before .before .before .before .before in
-    rw (heading-same (s .args .serial) (s .args .style) (s .args .row .code) (s .pre .style-kept) (h .head-start .ensures)) at (c .before .before .write-length .ensures)
+    rw (heading-same (s .args .carrier) (s .args .style) (s .args .row .code) (s .pre .style-kept) (h .head-start .ensures)) at (c .before .before .write-fields .ensures)
 
 pub write-row-spec : {M : Type 1} → statement M
 write-row-spec =
@@ -47,13 +47,13 @@ write-row-spec =
     mul-t13
     add-t14
     (λ c κs. search needs)
-    sub-write-length
-    part-write-length-start
+    sub-write-fields
+    part-write-fields-start
     (λ c. search needs)
     (λ c. c .before .before .before .before .before .before .before .before .before .pre .before-fits)
-    slice-aggregate-write-length
+    slice-aggregate-write-fields
     (λ c. c .before .before .before .before .before .before .before .before .before .before .pre .behind-fits)
-    slice-aggregate-write-length-2
+    slice-aggregate-write-fields-2
     (λ c κs. search needs)
     (λ c. search needs)
     returns)

@@ -1,4 +1,4 @@
--- The flag tells the carrier, and only the serial lead adds bytes.
+-- Only the serial lead adds bytes.
 use borrow.Author.Needs.{needs}
 use Rattle.room.specs.Carriers.{addedOn}
 use Rattle.room.proofs.added.Statement.{statement}
@@ -9,6 +9,8 @@ unfolding addedOn
 added-spec =
     tie.close
     (tie.spec
+    (λ c. search needs)
     (λ c κs. search needs)
-    (λ c. simp (c .before .if1 .taken, c .count-escapes .ensures))
-    (λ c. simp (c .if1 .left)))
+    (λ c. search needs)
+    (λ c. rw (c .before .enum-told .given .1) (c .count-escapes .ensures))
+    (λ c. rw (c .enum-told2 .given .1)))

@@ -9,14 +9,14 @@ returns : tie.Need-returns
 returns c =
     let l = c .before .before in
     let a = l .before .before .before .before .before .before .before .before .args in
-    fits (a .serial) (now (a .first)) (now (a .second)) (now (a .third)) (now (a .fourth)) _ (l .before .before .before .left-after .ensures)
+    fits (a .carrier) (now (a .first)) (now (a .second)) (now (a .third)) (now (a .fourth)) _ (l .before .before .before .left-after .ensures)
     (l .before .before .left-after2 .ensures) (l .before .left-after3 .ensures) (l .left-after4 .ensures) (c .enum-told .given .1)
 
 returns-2 : tie.Need-returns-2
 returns-2 c =
     let l = c .before .before in
     let a = l .before .before .before .before .before .before .before .before .args in
-    too-much (a .serial) (now (a .first)) (now (a .second)) (now (a .third)) (now (a .fourth)) _ (l .before .before .before .left-after .ensures)
+    too-much (a .carrier) (now (a .first)) (now (a .second)) (now (a .third)) (now (a .fourth)) _ (l .before .before .before .left-after .ensures)
     (l .before .before .left-after2 .ensures) (l .before .left-after3 .ensures) (l .left-after4 .ensures) (c .enum-told2 .given .1)
 
 pub fields-fit-spec : {M : Type 1} → statement M

@@ -10,17 +10,17 @@ use Rattle.room.proofs.left_after.Tie as tie
 returns-2 : tie.Need-returns-2
 returns-2 c =
     let a = c .before .before .before .before .before .args in
-    rw (c .before .before .left .given .1) (short (a .serial) (now (a .bytes)) refl (omega arith))
+    rw (c .before .before .left .given .1) (short (a .carrier) (now (a .bytes)) refl (omega arith))
 
 returns-3 : tie.Need-returns-3
 returns-3 c =
     let a = c .before .before .before .before .before .before .before .args in
-    rw (c .before .before .before .before .left .given .1) (short (a .serial) (now (a .bytes)) (c .before .added .ensures) (omega arith))
+    rw (c .before .before .before .before .left .given .1) (short (a .carrier) (now (a .bytes)) (c .before .added .ensures) (omega arith))
 
 returns-4 : tie.Need-returns-4
 returns-4 c =
     let a = c .before .before .before .before .before .before .before .args in
-    rw (c .before .before .before .before .left .given .1) (spare (a .serial) (now (a .bytes)) (c .before .added .ensures) (omega arith))
+    rw (c .before .before .before .before .left .given .1) (spare (a .carrier) (now (a .bytes)) (c .before .added .ensures) (omega arith))
 
 pub left-after-spec : {M : Type 1} → statement M
 left-after-spec =

@@ -9,18 +9,18 @@ use Rattle.room.proofs.parts_fit.Tie as tie
 returns : tie.Need-returns
 returns c =
     let a = c .before .before .before .before .before .before .args in
-    no-heading (a .serial) (now (a .heading)) (now (a .first) ++ (now (a .second) ++ (now (a .third) ++ now (a .fourth)))) (c .if1 .taken)
+    no-heading (a .carrier) (now (a .heading)) (now (a .first) ++ (now (a .second) ++ (now (a .third) ++ now (a .fourth)))) (c .if1 .taken)
 
 returns-2 : tie.Need-returns-2
 returns-2 c =
     let a = c .before .before .before .before .before .before .before .before .args in
-    doubled (a .serial) (now (a .heading)) (now (a .first) ++ (now (a .second) ++ (now (a .third) ++ now (a .fourth)))) (c .before .before .if1 .left)
+    doubled (a .carrier) (now (a .heading)) (now (a .first) ++ (now (a .second) ++ (now (a .third) ++ now (a .fourth)))) (c .before .before .if1 .left)
     (c .before .fields-fit .ensures) (c .if2 .taken)
 
 returns-3 : tie.Need-returns-3
 returns-3 c =
     let a = c .before .before .before .before .before .before .before .before .before .args in
-    behind (a .serial) (now (a .heading)) (now (a .first) ++ (now (a .second) ++ (now (a .third) ++ now (a .fourth)))) (c .before .before .before .if1 .left)
+    behind (a .carrier) (now (a .heading)) (now (a .first) ++ (now (a .second) ++ (now (a .third) ++ now (a .fourth)))) (c .before .before .before .if1 .left)
     (c .fields-fit2 .ensures)
 
 pub parts-fit-spec : {M : Type 1} → statement M

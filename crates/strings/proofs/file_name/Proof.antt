@@ -1,7 +1,8 @@
 -- A body that ends inside the block has no name; else the scan gets the part behind it.
 use mathlib.Core.Path.{sym, ap, _∙_}
 use denote.Ref.{now}
-use Rattle.strings.proofs.Laws.{no-name, rest}
+use Rattle.serial_rules.proofs.Lent.{take-behind}
+use Rattle.strings.proofs.Laws.{no-name}
 use Rattle.strings.specs.Text.{stringFrom}
 use borrow.Author.Needs.{needs}
 use Rattle.strings.proofs.file_name.Statement.{statement}
@@ -23,7 +24,7 @@ string-length-requires : tie.Need-string-length-requires
 string-length-requires c κs = search needs
 
 returns-2 : tie.Need-returns-2
-returns-2 c = c .string-length .ensures ∙ ap (stringFrom 0) (rest 16 (now (c .before .before .before .before .args .body)))
+returns-2 c = c .string-length .ensures ∙ ap (stringFrom 0) (take-behind 16 (now (c .before .before .before .before .args .body)))
 
 pub file-name-spec : {M : Type 1} → statement M
 file-name-spec =

@@ -2,7 +2,7 @@
 use denote.Ref.{now}
 use native.Mathlib.Omega.{arith}
 use lib.ListN.{length-set}
-use Rattle.link.proofs.Shapes.{turned}
+use Rattle.shapes.proofs.Turned.{turned}
 use Rattle.link.proofs.Steps.{own-full, own-refused, own-more, own-ended}
 use borrow.Author.Needs.{needs}
 use Rattle.link.proofs.Link.own_step.Statement.{statement}

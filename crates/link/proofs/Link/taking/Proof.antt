@@ -1,7 +1,7 @@
 -- Each turn of the shape is one outcome of the rule, whose law says what the record left promises.
 use denote.Ref.{now}
 use native.Mathlib.Omega.{arith}
-use Rattle.link.proofs.Shapes.{turned}
+use Rattle.shapes.proofs.Turned.{turned}
 use Rattle.link.proofs.Steps.{reply-refused, reply-more, reply-ended}
 use borrow.Author.Needs.{needs}
 use Rattle.link.proofs.Link.taking.Statement.{statement}

@@ -1,6 +1,5 @@
 -- By the standing of the record: stopped, outside or inside a request. A record that stands inside keeps its limits.
-use Rattle.request_reader.specs.View.{within}
-use Rattle.request_reader.proofs.Steps.{stands-within, at-stopped, at-outside, at-inside}
+use Rattle.request_reader.proofs.Steps.{stands-inside, at-stopped, at-outside, at-inside}
 use denote.Ref.{now}
 use mathlib.Core.Path.{sym, _∙_}
 use borrow.Author.Needs.{needs}
@@ -26,7 +25,7 @@ inside-step-requires : tie.Need-inside-step-requires
 inside-step-requires c κs =
     let q = c .before .before .before in
     let r = q .before .args .self in
-    (stands-within (r .phase) (within r) (sym (q .standing .ensures) ∙ c .before .enum-told3 .given .1), search needs)
+    (stands-inside r (sym (q .standing .ensures) ∙ c .before .enum-told3 .given .1), search needs)
 
 returns : tie.Need-returns
 returns c =
