@@ -285,7 +285,7 @@ typedef struct {
     uint16_t got;       /* bytes of the reply so far */
     uint16_t held;      /* bytes of the open action so far */
     uint8_t wait;       /* 0 where no call waits, else 1 + the number of the call (TubeCall) */
-    uint8_t out_length; /* of an OSWORD that waits */
+    uint8_t out_length; /* of an OSWORD that waits; else it stays as it was given */
     uint8_t action;     /* the open one */
     uint8_t flags;
 } TubeLink;

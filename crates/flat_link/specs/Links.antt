@@ -71,7 +71,8 @@ abbrev pub flatOf : FlatLink → Link → FlatLink
 flatOf f l =
     record { got = l .got; held = l .held; wait = waitNumber (l .wait); «out_length» = waitOut (f .«out_length») (l .wait); action = doingNumber (l .doing); flags = flagsNumber (l .escape) (l .stopped) }
 
--- the flat result of an answer: what it does not have is 0
+-- The flat result of an answer: kind 0 needs more, 1 is a character, 2 an Escape state, 3 an event, 4 an address, 5 a reply, 6 an error, 7 a
+-- restart, 8 a refusal; what it does not have is 0.
 abbrev pub toldWith : FlatLink → ℕ → ℕ → ℕ → FlatTold
 toldWith f kind first n = record { link = f; length = n; kind = kind; first = first; second = 0; third = 0; fourth = 0 }
 

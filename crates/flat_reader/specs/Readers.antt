@@ -41,7 +41,7 @@ abbrev pub flatOf : ℕ → Reader → FlatReader
 flatOf given r =
     record { count = r .count; carrier = carrierNumber (r .carrier); phase = phaseNumber (r .phase); escape = flagNumber given (r .escape); style = r .style; code = r .code }
 
--- the flat result of an answer
+-- The flat result of an answer: kind 0 needs more, 1 is a character, 2 a request, 3 a refusal; what the kind does not name is 0.
 abbrev pub flatPlain : FlatReader → ℕ → ℕ → FlatRead
 flatPlain f kind value = record { reader = f; length = 0; kind = kind; value = value; style = 0; code = 0 }
 

@@ -5,14 +5,14 @@ use mathlib.Core.Path.{_≡_, refl, sym, ap, ap₂, subst, _∙_}
 use mathlib.Core.Bool.{Bool, true, false}
 use mathlib.Core.List.{List}
 use native.Mathlib.Omega.{arith}
-use lib.ListN.{length, take, length-set}
+use lib.ListN.{length, take}
 use lib.Seq.{length-take-le}
 use Rattle.serial_rules.specs.Escape.{Piece, pending, dataByte, mark, pieceOf}
 use Rattle.serial_rules.specs.Body.{Turn, more, done, refused}
-use Rattle.serial_rules.specs.Lent.{turnLent}
 use Rattle.serial_rules.specs.Reply as kinds
 use Rattle.serial_rules.specs.Reply.{shapeOf, shapeTurn, longest}
 use Rattle.serial_rules.specs.Link as rules
+use Rattle.serial_rules.proofs.Lent.{turn-length}
 use Rattle.kind.specs.Kinds.{kindFor, replyLent}
 use Rattle.kind.specs.declared.CallKind.{CallKind}
 use Rattle.kind.specs.declared.CallKind.the-variants.{Osrdch, Oscli, OsbyteLow, OsbyteHigh, Osword, Osword0, Osargs, Osbget, Osbput, OsfindClose, OsfindOpen, Osfile, Osgbpb}
@@ -113,11 +113,6 @@ module _ (l : Link) (reply own : List ℕ) (u : usableOf l ≡ true) (got : l .g
       )
 
 -- lent bytes stay as many
-turn-length : (s : List ℕ) (n b : ℕ) (t : Turn) → length (turnLent s n b t) ≡ length s
-turn-length s n b more = length-set s n b
-turn-length s n b done = length-set s n b
-turn-length s n b (refused k) = refl
-
 reply-length : (v : rules.Link) (x : ℕ) (reply : List ℕ) → length (replyAfter v x reply) ≡ length reply
 unfolding replyAfter
 reply-length rules.stopped x reply = refl

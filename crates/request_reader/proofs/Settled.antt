@@ -6,15 +6,15 @@ use mathlib.Core.Path.{_≡_, refl, sym, ap, _∙_}
 use mathlib.Core.Bool.{Bool, true, false, cond, _&&_}
 use mathlib.Core.List.{List, []}
 use lib.Dec.{eqb}
-use lib.ListN.{length, take, length-set}
+use lib.ListN.{length, take}
 use lib.Seq.{length-take-le}
 use borrow.Author.Tests.{eqb-true}
 use Rattle.serial_rules.specs.Escape.{Piece, pending, dataByte, mark}
 use Rattle.serial_rules.specs.Marks.{styleOf, codeIn}
 use Rattle.serial_rules.specs.Call as call
 use Rattle.serial_rules.specs.Body.{Turn, more, done, refused, bodyTurn}
-use Rattle.serial_rules.specs.Lent.{turnLent}
 use Rattle.serial_rules.specs.Reader as rules
+use Rattle.serial_rules.proofs.Lent.{turn-length}
 use Rattle.serial_rules.proofs.Trip.{and-both}
 use Rattle.carrier.specs.Carriers.{carrierOf}
 use Rattle.request_reader.specs.View.{bodyRoom, limitsIn, placed, viewOf, answerFor, pieceLent, lentAfter, Step-done}
@@ -64,11 +64,6 @@ step-refuses c (rules.outside e) x h = outside-refuses c (rules.pieceOutside c e
 step-refuses c (rules.inside e style code s) x h = inside-refuses style code s (rules.pieceInside c e x) h
 
 -- no byte is lent or taken back
-turn-length : (lent : List ℕ) (n b : ℕ) (t : Turn) → length (turnLent lent n b t) ≡ length lent
-turn-length lent n b more = length-set lent n b
-turn-length lent n b done = length-set lent n b
-turn-length lent n b (refused k) = refl
-
 piece-length : (lent : List ℕ) (code : ℕ) (s : List ℕ) (p : Piece) → length (pieceLent lent code s p) ≡ length lent
 piece-length lent code s pending = refl
 piece-length lent code s (dataByte b) = turn-length lent (length s) b (bodyTurn code s b)
