@@ -35,7 +35,7 @@ pub fn add(checksum: &mut u64, value: u64) {
 
 /// The best time in ns of memcpy over bytes in pieces of these lengths.
 pub fn copying(bytes: &[u8], pieces: &[usize]) -> f64 {
-    let mut out = [0; 2048];
+    let mut out = [0; 8192];
     let mut run = || {
         let mut rest = bytes;
         for &length in pieces {

@@ -1,12 +1,14 @@
-//! Replies, read through the loop, byte by byte, and written.
+//! Replies, read through the loop, byte by byte and as whole recordings, and written.
 
 use crate::interface::{
-    self, TubeRan, tube_begin, tube_link, tube_link_step, tube_run, tube_write_reply,
+    self, TubeRan, TubeRecorded, tube_begin, tube_link, tube_link_step, tube_read_recorded,
+    tube_run, tube_write_reply,
 };
+use crate::link::recorded::{End, Recorded, read_recorded};
 use crate::link::serial::SERIAL;
 use crate::link::{
     A_BLOCK, ACK, BLOCK, BLOCK_CARRY_A, Begun, CARRY_A, CARRY_Y_X, ESCAPED, LENT, LINE, Link, NOTE,
-    NUMBER, OSWORD, OSWORD_0, PLAIN, Ran, Reply, Told,
+    NUMBER, OSBGET, OSWORD, OSWORD_0, PLAIN, Ran, Reply, Told,
 };
 use crate::measure::{BYTES, Random, Table, add, best, copying, letters};
 use crate::single;
@@ -18,7 +20,7 @@ struct Load {
     numbers: [u8; 4],
     block: Vec<u8>,
     text: Vec<u8>,
-    action: &'static [u8],
+    before: Vec<u8>,
 }
 
 impl Load {
@@ -82,9 +84,9 @@ fn mixed() -> Vec<Load> {
                 numbers: [0; 4].map(|_: u8| random.next() as u8),
                 block: random.bytes(block),
                 text: random.bytes(text),
-                action: match number % 8 {
-                    0 => ACTIONS[number / 8 % 2],
-                    _ => &[],
+                before: match number % 8 {
+                    0 => ACTIONS[number / 8 % 2].to_vec(),
+                    _ => Vec::new(),
                 },
             }
         })
@@ -104,7 +106,28 @@ fn alike(call: u8) -> Vec<Load> {
             numbers: [1; 4],
             block: block.clone(),
             text: text.clone(),
-            action: &[],
+            before: Vec::new(),
+        })
+        .collect()
+}
+
+/// The bytes of a file, and how often it is loaded.
+const FILE: usize = 4096;
+const FILES: usize = 100;
+
+/// One OSBGET over and over, with a load of a file inside its reply.
+fn loads() -> Vec<Load> {
+    let mut before = vec![0x9B, 0xE0, 0x00, 0x00, 0x19, 0x00];
+    before.extend(letters(FILE));
+    before.extend([0x9B, 0xB0]);
+    (0..FILES)
+        .map(|_| Load {
+            call: OSBGET,
+            reply: CARRY_A,
+            numbers: [1; 4],
+            block: Vec::new(),
+            text: Vec::new(),
+            before: before.clone(),
         })
         .collect()
 }
@@ -129,7 +152,7 @@ impl Talk {
             let before = stream.len();
             // Nothing is read for a call that is complete when begun.
             if length > 0 {
-                stream.extend_from_slice(one.action);
+                stream.extend_from_slice(&one.before);
             }
             stream.extend_from_slice(&out[..length]);
             pieces.push(stream.len() - before);
@@ -143,18 +166,21 @@ impl Talk {
 
     /// A checksum of all answers. `one` begins a call and runs
     /// to the end of its reply: the reply's length, the bytes used, the notes
-    /// made, or nothing where the call is complete.
+    /// made, the bytes of data, or nothing where the call is complete.
     fn read(
         &self,
         lent: &mut Lent,
-        mut one: impl FnMut((u8, u8), &[u8], &mut Lent) -> Option<[usize; 3]>,
+        mut one: impl FnMut((u8, u8), &[u8], &mut Lent) -> Option<[usize; 4]>,
     ) -> u64 {
         let mut checksum = 0;
         let mut rest = &self.stream[..];
         for &call in &self.calls {
-            let Some([length, used, noted]) = one(call, rest, lent) else {
+            let Some([length, used, noted, stored]) = one(call, rest, lent) else {
                 continue;
             };
+            if let Some(&last) = lent.data[..stored].last() {
+                add(&mut checksum, (stored as u64) << 8 | last as u64);
+            }
             add(&mut checksum, (length as u64) << 16 | used as u64);
             add(&mut checksum, lent.reply[length - 1] as u64);
             for &byte in &lent.room[..NOTE * noted] {
@@ -171,6 +197,7 @@ struct Lent {
     reply: [u8; LENT],
     own: [u8; LENT],
     room: Vec<u8>,
+    data: Vec<u8>,
 }
 
 impl Lent {
@@ -179,6 +206,7 @@ impl Lent {
             reply: [0; LENT],
             own: [0; LENT],
             room: vec![0; NOTE * talk.stream.len()],
+            data: vec![0; talk.stream.len()],
         }
     }
 }
@@ -190,7 +218,12 @@ fn read_library(talk: &Talk, lent: &mut Lent) -> u64 {
         if begun.kind == 1 {
             return None;
         }
-        let TubeRan { told, used, noted } = tube_run(
+        let TubeRan {
+            told,
+            used,
+            noted,
+            stored,
+        } = tube_run(
             begun.link,
             rest.as_ptr(),
             rest.len(),
@@ -198,10 +231,12 @@ fn read_library(talk: &Talk, lent: &mut Lent) -> u64 {
             lent.own.as_mut_ptr(),
             lent.room.as_mut_ptr(),
             lent.room.len(),
+            lent.data.as_mut_ptr(),
+            lent.data.len(),
         );
         assert_eq!(told.kind, interface::REPLY);
         link = told.link;
-        Some([told.length, used, noted])
+        Some([told.length, used, noted, stored])
     })
 }
 
@@ -213,7 +248,13 @@ fn rust_begin(link: &mut Link, call: u8, out_length: u8) -> Begun {
 
 #[inline(never)]
 fn rust_run(link: &mut Link, raw: &[u8], lent: &mut Lent) -> Ran {
-    link.run(raw, &mut lent.reply, &mut lent.own, &mut lent.room)
+    link.run(
+        raw,
+        &mut lent.reply,
+        &mut lent.own,
+        &mut lent.room,
+        &mut lent.data,
+    )
 }
 
 fn read_rust(talk: &Talk, lent: &mut Lent) -> u64 {
@@ -222,11 +263,57 @@ fn read_rust(talk: &Talk, lent: &mut Lent) -> u64 {
         if rust_begin(&mut link, call, out_length) == Begun::Complete {
             return None;
         }
-        let Ran { told, used, noted } = rust_run(&mut link, rest, lent);
+        let Ran {
+            told,
+            used,
+            noted,
+            stored,
+        } = rust_run(&mut link, rest, lent);
         let Told::Reply(length) = told else {
             panic!("{told:?}");
         };
-        Some([length, used, noted])
+        Some([length, used, noted, stored])
+    })
+}
+
+/// The same as whole recordings.
+fn recorded_library(talk: &Talk, lent: &mut Lent) -> u64 {
+    talk.read(lent, |(call, out_length), rest, lent| unsafe {
+        let TubeRecorded {
+            kind,
+            length,
+            used,
+            noted,
+            stored,
+            ..
+        } = tube_read_recorded(
+            call,
+            out_length,
+            rest.as_ptr(),
+            rest.len(),
+            lent.room.as_mut_ptr(),
+            lent.room.len(),
+            lent.data.as_mut_ptr(),
+            lent.data.len(),
+            lent.reply.as_mut_ptr(),
+        );
+        assert_eq!(kind, interface::REPLY);
+        (length > 0).then_some([length, used, noted, stored])
+    })
+}
+
+#[inline(never)]
+fn rust_recorded(call: (u8, u8), raw: &[u8], lent: &mut Lent) -> Recorded {
+    read_recorded(call, raw, &mut lent.room, &mut lent.data, &mut lent.reply)
+}
+
+fn recorded_rust(talk: &Talk, lent: &mut Lent) -> u64 {
+    talk.read(lent, |call, rest, lent| {
+        let read = rust_recorded(call, rest, lent);
+        let End::Reply(reply) = read.end else {
+            panic!("{:?}", read.end);
+        };
+        (!reply.is_empty()).then_some([reply.len(), read.used, read.noted, read.stored])
     })
 }
 
@@ -306,7 +393,11 @@ fn bytes_rust(talk: &Talk, lent: &mut Lent) -> u64 {
             single::Told::Escape(on) => Some((2, on as u64)),
             single::Told::Event([y, x, a]) => Some((3, u32::from_le_bytes([y, x, a, 0]) as u64)),
             single::Told::Reply(length) => Some((interface::REPLY, length as u64)),
-            told => panic!("{told:?}"),
+            single::Told::Data(byte) => Some((13, byte as u64)),
+            told => {
+                let [kind, values @ ..] = told.note().unwrap();
+                Some((kind as u32, u32::from_le_bytes(values) as u64))
+            }
         },
     )
 }
@@ -375,8 +466,20 @@ pub fn tables() -> Option<Vec<Table>> {
         ("all kinds in turn, an action in eight", mixed()),
         ("OSWORD, 255 bytes", alike(OSWORD)),
         ("OSWORD 0, 255 bytes", alike(OSWORD_0)),
+        ("OSBGET with a load of 4,096 bytes", loads()),
     ];
     let mut read = Table::new("Replies read by the loop:", &BYTES);
+    let mut whole = Table::new(
+        "Whole recorded replies, and the loop over the same bytes:",
+        &[
+            "ns a byte",
+            "library",
+            "loop",
+            "library / loop",
+            "Rust",
+            "library / Rust",
+        ],
+    );
     let mut single = Table::new("Replies read byte by byte:", &BYTES);
     let mut written = Table::new("Replies written:", &BYTES);
     for (name, load) in &loads {
@@ -387,6 +490,24 @@ pub fn tables() -> Option<Vec<Table>> {
         }])?;
         let copy = copying(&talk.stream, &talk.pieces);
         read.bytes_row(name, talk.stream.len(), times, copy);
+
+        let mut three = Lent::new(&talk);
+        let [library, rust, looped] = best([
+            &mut || recorded_library(&talk, &mut one),
+            &mut || recorded_rust(&talk, &mut two),
+            &mut || read_library(&talk, &mut three),
+        ])?;
+        let bytes = talk.stream.len() as f64;
+        whole.row(
+            name,
+            &[
+                library / bytes,
+                looped / bytes,
+                library / looped,
+                rust / bytes,
+                library / rust,
+            ],
+        );
 
         let times = best([&mut || bytes_library(&talk, &mut one), &mut || {
             bytes_rust(&talk, &mut two)
@@ -400,5 +521,5 @@ pub fn tables() -> Option<Vec<Table>> {
         let (bytes, pieces) = encoded(&replies);
         written.bytes_row(name, bytes.len(), times, copying(&bytes, &pieces));
     }
-    Some(vec![read, single, written])
+    Some(vec![read, whole, single, written])
 }

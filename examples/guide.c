@@ -35,8 +35,11 @@ size_t receive_raw(uint8_t *bytes, size_t room) {
     return waiting + 2;
 }
 
-void note(const uint8_t bytes[TUBE_NOTE]) {
-    printf("note: %u %u\n", bytes[0], bytes[1]);
+void note(const uint8_t bytes[TUBE_NOTE], const uint8_t *data) {
+    printf("note: %u %u", bytes[0], bytes[1]);
+    for (int i = 0; bytes[0] == TUBE_TOLD_DATA && i < bytes[1]; i++)
+        printf("%s&%02X", i == 0 ? ", " : " ", data[i]);
+    printf("\n");
 }
 
 /* ---- And a host at the chip that answers OSBYTE with the X and Y that it was given ---- */
@@ -77,6 +80,12 @@ int main(void) {
     arrived(&lead, (const uint8_t *)"Hi\n", 3);
     for (int i = 0; i < 3; i++)
         printf("client: OSBGET gives %d\n", osbget(&link, 5));
+
+    /* the bytes of the picture 'A load inside the reply to OSBGET' */
+    const uint8_t recorded[12] = {0x80, TUBE_ESCAPE_BYTE, 0xE0, 0x00, 0x00, 0x19, 0x00, 0x41, 0x42, TUBE_ESCAPE_BYTE, 0xB0, 0x41};
+    uint8_t reply[TUBE_REPLY_LENGTH];
+    TubeRecorded r = replay(TUBE_OSBGET, 0, recorded, sizeof recorded, reply);
+    printf("recorded: kind %u, %u bytes used, reply &%02X &%02X\n", (unsigned)r.kind, (unsigned)r.used, reply[0], reply[1]);
 
     osbytes(&chip);
 

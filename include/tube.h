@@ -30,16 +30,19 @@ enum {
     TUBE_EMPTY = 3,          /* data read of an empty channel: chip unchanged, byte 0 */
     TUBE_UNKNOWN_CODE = 4,   /* a mark or a request code that is not carried: the reader or link is stopped; a number that is no call: the link as
                                 it was, a writer's buffer untouched */
-    TUBE_MARK_INSIDE = 5,    /* a mark inside a request, or inside an action's own bytes: the reader or link is stopped */
+    TUBE_MARK_INSIDE = 5,    /* a mark inside a request, or inside an action's own bytes, or an end with no transfer open: the reader or link is
+                                stopped */
     TUBE_STRING_LONG = 6,    /* a string or an error's text over 255 bytes: the reader or link is stopped; a writer's buffer and the reply so far
                                 untouched */
     TUBE_STOPPED = 7,        /* a byte given to, or a call begun on, a stopped reader or link, or a byte behind the last of a reply: the record is
                                 given back as it was */
     TUBE_BUFFER_SHORT = 8,   /* a lent buffer is too short: no byte of it was touched, nothing was played, no raw byte used */
-    TUBE_BAD_FIELD = 9,      /* a field breaks its rule: the reader is stopped; a writer's buffer untouched */
+    TUBE_BAD_FIELD = 9,      /* a field breaks its rule, or a data byte comes inside a save: the reader or link is stopped; a writer's buffer
+                                untouched */
     TUBE_LIMIT_REACHED = 10, /* the play limit is reached and script bytes remain: the chip as after the last played record */
     TUBE_CUT_SHORT = 11,     /* the script ends inside a record: the same */
-    TUBE_CALL_WAITS = 12     /* a call begun while another waits: the link is given back as it was */
+    TUBE_CALL_WAITS = 12,    /* a call begun while another waits: the link is given back as it was */
+    TUBE_TOO_DEEP = 13       /* a load or save where four transfers are open: the link is stopped */
 };
 
 /* ---- The chip ---- */
@@ -275,12 +278,24 @@ enum {
     TUBE_NOTE = 5            /* the bytes of a note */
 };
 
-enum { TUBE_NO_ACTION = 0, TUBE_IN_ERROR = 1, TUBE_IN_EVENT = 2, TUBE_IN_ADDRESS = 3 }; /* the open action */
+/* The open action: an error, an event, or four address bytes, which are for setting an address, for execute, for a load or for a save; or
+ * TUBE_IN_BLOCK + n for a control block of n bytes, 1 to 127. */
+enum {
+    TUBE_NO_ACTION = 0, TUBE_IN_ERROR = 1, TUBE_IN_EVENT = 2, TUBE_IN_ADDRESS = 3, TUBE_IN_EXECUTE = 4, TUBE_IN_LOAD = 5, TUBE_IN_SAVE = 6,
+    TUBE_IN_BLOCK = 128
+};
 
-enum { TUBE_LINK_ESCAPE = 1, TUBE_LINK_STOPPED = 2 }; /* flags: an escape was seen; the link is stopped */
+/* Transfers. A load or save is open from the last byte of its address to its end; at most four are open, one inside the other. */
+enum { TUBE_LOAD = 0, TUBE_SAVE = 1 };
+enum { TUBE_TRANSFERS = 4 };
 
-/* A link. A record with `wait` above 13, or `action` or `flags` above 3, or one that exceeds its limits (as many bytes of the reply, or of the
- * open action, as there can be; bytes of either where there is none), counts as stopped. */
+/* The flags of a link are a sum: an escape was seen; the link is stopped; and TUBE_LINK_NESTED times a number for the open transfers, which is 0
+ * where none is open, 2n + 1 for a load inside those of number n, 2n + 2 for a save. So test a bit of the flags, not the number. */
+enum { TUBE_LINK_ESCAPE = 1, TUBE_LINK_STOPPED = 2, TUBE_LINK_NESTED = 4 };
+
+/* A link. A record with `wait` above 13, with `action` from 7 to 128 or with `flags` above 123, or one that exceeds its limits (as many bytes of
+ * the reply, or of the open action, as there can be; bytes of either where there is none; four transfers open while the address of a load or save
+ * is read), counts as stopped. */
 typedef struct {
     uint16_t got;       /* bytes of the reply so far */
     uint16_t held;      /* bytes of the open action so far */
@@ -290,7 +305,7 @@ typedef struct {
     uint8_t flags;
 } TubeLink;
 
-/* Kinds of a link's answers. Those from TUBE_TOLD_CHARACTER to TUBE_TOLD_ADDRESS are also the kinds of notes. */
+/* Kinds of a link's answers. Those from TUBE_TOLD_CHARACTER to TUBE_TOLD_ADDRESS and from TUBE_TOLD_BLOCK on are also the kinds of notes. */
 enum {
     TUBE_TOLD_MORE = 0,
     TUBE_TOLD_CHARACTER = 1,
@@ -300,7 +315,13 @@ enum {
     TUBE_TOLD_REPLY = 5,
     TUBE_TOLD_ERROR = 6,
     TUBE_TOLD_RESTART = 7,
-    TUBE_TOLD_REFUSED = 8
+    TUBE_TOLD_REFUSED = 8,
+    TUBE_TOLD_BLOCK = 9,
+    TUBE_TOLD_EXECUTE = 10,
+    TUBE_TOLD_LOAD = 11,
+    TUBE_TOLD_SAVE = 12,
+    TUBE_TOLD_DATA = 13,
+    TUBE_TOLD_END = 14
 };
 
 /* What a raw byte gives. What its kind does not name is 0.
@@ -309,9 +330,17 @@ enum {
  *   event       first Y, second X, third A
  *   address     first to fourth, high byte first
  *   reply       the first `length` bytes of the lent reply; read its fields by tube_read_reply
- *   error       first is its number, its text the `length` bytes of the other lent bytes from the second on; the call that waited is over
- *   restart     the call that waited is over
- *   refused     first is the answer's number: 4, 5 or 6, and the link is stopped, or 7; from tube_run also 8, and the link is as it was */
+ *   error       first is its number, its text the `length` bytes of the other lent bytes from the second on; the call that waited is over, and
+ *               every transfer is closed
+ *   restart     the same, without number and text
+ *   refused     first is the answer's number: 4, 5, 6, 9 or 13, and the link is stopped, or 7; from tube_run also 8, and the link is as it was
+ *   block       a control block: the first `length` bytes of the other lent bytes
+ *   execute     first to fourth, an address, high byte first
+ *   load, save  the same; the transfer is open from here on
+ *   data        first: a byte of the innermost open load
+ *   end         first: TUBE_LOAD or TUBE_SAVE, the transfer that it closed
+ * No byte of an open transfer is one of the reply or a character. A transfer is closed by its end, by an error or by a restart only; a call whose
+ * host forgets an end waits. */
 typedef struct {
     TubeLink link; /* for the next byte */
     size_t length;
@@ -345,14 +374,39 @@ typedef struct {
     TubeTold told; /* where it ended: a reply, an error, a restart or a refusal, or need-more where the slice ended first */
     size_t used;   /* the bytes of the slice that were read, that answer's too; the next slice starts behind them */
     size_t noted;  /* the notes written into `room` */
+    size_t stored; /* the bytes written into `data` */
 } TubeRan;
 
-/* Raw bytes, one by one as tube_link_step takes them, up to a reply, an error, a restart or a refusal. Each character, Escape state, event and
- * address on the way leaves a note in `room`, one behind the other: TUBE_NOTE bytes, which are kind, first, second, third and fourth as a
- * TubeTold has them. The room is for a note a raw byte: where it is shorter than TUBE_NOTE * raw_length the answer is TUBE_BUFFER_SHORT, no
- * byte is used and nothing changes, the link too. */
+/* Raw bytes, one by one as tube_link_step takes them, up to a reply, an error, a restart or a refusal. What it tells on the way leaves notes in
+ * `room`, one behind the other, TUBE_NOTE bytes each: kind, first, second, third and fourth as a TubeTold has them, but for two kinds. Load data and the
+ * bytes of control blocks go into `data`, one behind the other, and the first byte behind the kind says how many, the others are 0: for TUBE_TOLD_BLOCK
+ * the length of the block, for TUBE_TOLD_DATA the number of load bytes, 1 to 255, that came with nothing else told between them; the 256th begins the
+ * next note, and so does the first of a slice.
+ * The room is for a note a raw byte, the data for a byte a raw byte and the open action's own before them: where `room` is shorter than
+ * TUBE_NOTE * raw_length, or `data` shorter than raw_length + link.held, the answer is TUBE_BUFFER_SHORT, no byte is used and nothing changes, the
+ * link too. */
 TubeRan tube_run(TubeLink link, const uint8_t *raw, size_t raw_length, uint8_t reply[TUBE_REPLY_LENGTH], uint8_t own[TUBE_OWN_LENGTH], uint8_t *room,
-                 size_t room_length);
+                 size_t room_length, uint8_t *data, size_t data_length);
+
+/* What a recorded reply gives. */
+typedef struct {
+    size_t used;     /* the raw bytes read, the one that ended it too */
+    size_t noted;    /* the notes written into `room` */
+    size_t stored;   /* the bytes written into `data` */
+    size_t length;   /* of a reply, or of an error's text; else 0 */
+    uint32_t kind;   /* TUBE_TOLD_REPLY, _ERROR, _RESTART or _REFUSED; TUBE_TOLD_MORE where the recording ran out before the call ended */
+    uint32_t number; /* of the error or of the refusal, else 0 */
+} TubeRecorded;
+
+/* A whole recorded reply: the raw bytes that came behind one call, read as tube_run reads them from a fresh link with the call begun, up to where the
+ * call ends, a byte is refused or the recording runs out. Notes and data are those of tube_run over the same bytes. `out` gets the reply's bytes, or
+ * the error's number and then its text; on every other outcome it stays as it was. An OSWORD with `out_length` 0 is complete before the first byte: a
+ * reply of length 0.
+ * Where `room` or `data` is shorter than what it would hold the answer is TUBE_BUFFER_SHORT: nothing is used or touched, and `noted` and `stored` say
+ * what is needed, so that a call with two empty buffers measures. TUBE_NOTE bytes of room and one of data for each raw byte always suffice.
+ * TUBE_UNKNOWN_CODE with nothing used: a number that is no call. */
+TubeRecorded tube_read_recorded(uint8_t call, uint8_t out_length, const uint8_t *raw, size_t raw_length, uint8_t *room, size_t room_length,
+                                uint8_t *data, size_t data_length, uint8_t out[TUBE_REPLY_LENGTH]);
 
 /* The replies, with the numbers that each has; a carry is set where its number is not 0. */
 typedef enum {

@@ -12,6 +12,7 @@ use std::time::{Duration, Instant};
 mod compare_chip;
 mod compare_link;
 mod compare_reader;
+mod compare_recorded;
 mod compare_reply;
 mod compare_writer;
 mod inputs;
@@ -32,7 +33,7 @@ struct Comparison {
     share: fn(&mut Random, u64, &mut Report),
 }
 
-const COMPARISONS: [Comparison; 5] = [
+const COMPARISONS: [Comparison; 6] = [
     Comparison {
         name: "chip",
         report: compare_chip::report,
@@ -62,6 +63,12 @@ const COMPARISONS: [Comparison; 5] = [
         report: compare_reply::report,
         whole: compare_reply::whole,
         share: compare_reply::share,
+    },
+    Comparison {
+        name: "recorded",
+        report: compare_recorded::report,
+        whole: compare_recorded::whole,
+        share: compare_recorded::share,
     },
 ];
 

@@ -1,14 +1,16 @@
 //! The link: the same streams, begun calls, pieces of streams and single bytes go to
 //! the library and to the second program, and everything they give is compared.
 
-use crate::inputs::{Laden, escaped, most};
+use crate::inputs::{
+    ACTIONS, BLOCK_CLASS, Laden, NESTS, class_of, escaped, most, nest_of, open_of, opened, told_by,
+};
 use crate::interface::{
-    self, LINK_ESCAPE, LINK_STOPPED, NEED_MORE, REFUSED, REPLY, RESTART, TubeLink, TubeRan,
-    TubeTold, tube_begin, tube_link, tube_link_step, tube_run,
+    self, BLOCK, DATA, LINK_ESCAPE, LINK_FLAGS, LINK_NESTED, LINK_STOPPED, NEED_MORE, REFUSED,
+    REPLY, RESTART, TubeLink, TubeRan, TubeTold, tube_begin, tube_link, tube_link_step, tube_run,
 };
 use crate::link::{
-    ADDRESS, Begun, CALLS, ERROR, EVENT, LENT, Link, NO_ACTION, NOTE, OSRDCH, OSWORD, OSWORD_0,
-    Told, WAIT_BLOCK,
+    Begun, CALLS, ERROR, IN_BLOCK, LENT, LOAD, Link, NO_ACTION, NOTE, OSRDCH, OSWORD, OSWORD_0,
+    SAVE, SHORTEST_BLOCK, TRANSFERS, Told, Transfer, WAIT_BLOCK,
 };
 use crate::random::Random;
 use crate::report::{Report, Row, difference, every};
@@ -21,7 +23,9 @@ impl TubeLink {
             wait: link.wait,
             out_length: link.out_length,
             action: link.action,
-            flags: LINK_ESCAPE * link.escape as u8 + LINK_STOPPED * link.stopped as u8,
+            flags: LINK_ESCAPE * link.escape as u8
+                + LINK_STOPPED * link.stopped as u8
+                + LINK_NESTED * nest_of(link),
         }
     }
 
@@ -41,8 +45,9 @@ impl TubeLink {
             got: self.got as usize,
             action: self.action,
             held: self.held as usize,
+            open: open_of(self.flags / LINK_NESTED),
             escape: self.flags & LINK_ESCAPE != 0,
-            stopped: self.flags >= LINK_STOPPED,
+            stopped: self.flags & LINK_STOPPED != 0 || self.flags > LINK_FLAGS,
         }
     }
 
@@ -68,6 +73,11 @@ impl TubeTold {
 
 /// The kind, values and length of the second program's answer.
 fn numbers(told: Told) -> (u32, [u8; 4], usize) {
+    match told {
+        Told::Block(length) => return (BLOCK, [0; 4], length),
+        Told::Data(byte) => return (DATA, [byte, 0, 0, 0], 0),
+        _ => {}
+    }
     if let Some([kind, values @ ..]) = told.note() {
         return (kind as u32, values, 0);
     }
@@ -82,7 +92,18 @@ fn numbers(told: Told) -> (u32, [u8; 4], usize) {
 
 /// The most own bytes of an action; 1 where only 0 is within the limits.
 fn most_own(action: u8) -> usize {
-    *[1, LENT, 3, 4].get(action as usize).unwrap_or(&1)
+    match action {
+        ..IN_BLOCK => *[1, LENT, 3, 4, 4, 4, 4].get(action as usize).unwrap_or(&1),
+        _ => (action - IN_BLOCK).max(1) as usize,
+    }
+}
+
+/// The most own bytes of an action of this kind.
+fn most_of(class: usize) -> usize {
+    match class {
+        BLOCK_CLASS => 127,
+        _ => most_own(class as u8),
+    }
 }
 
 // ---- Properties ----
@@ -117,6 +138,9 @@ enum Property {
     RunNoted,
     RunNotes,
     RunBeyond,
+    RunStored,
+    RunData,
+    RunDataBeyond,
     RunRecord,
     RunKept,
     RunReply,
@@ -125,6 +149,7 @@ enum Property {
     RunEmpty,
     ActionsReply,
     ActionsNotes,
+    ActionsData,
     ActionsEnd,
     ActionsPieces,
     ActionsError,
@@ -136,6 +161,7 @@ enum Property {
     InputMarks,
     InputEscaped,
     InputLengths,
+    InputTransfers,
     InputBegun,
     InputLate,
     InputResets,
@@ -152,7 +178,7 @@ impl From<Property> for usize {
 }
 
 #[rustfmt::skip]
-const PROPERTIES: [Row<Property>; 54] = [
+const PROPERTIES: [Row<Property>; 59] = [
     (Property::Fresh, "fresh link", 1),
     (Property::StreamKind, "stream: kind of answer", 40 * STREAMS),
     (Property::StreamValues, "stream: values of the answer", 40 * STREAMS),
@@ -181,29 +207,34 @@ const PROPERTIES: [Row<Property>; 54] = [
     (Property::RunNoted, "run: number of notes", 4 * STREAMS),
     (Property::RunNotes, "run: the notes", STREAMS),
     (Property::RunBeyond, "run: room beyond the notes stays", 4 * STREAMS),
+    (Property::RunStored, "run: number of bytes of load data and blocks", 4 * STREAMS),
+    (Property::RunData, "run: the load data and blocks", STREAMS),
+    (Property::RunDataBeyond, "run: data lent beyond them stays", 4 * STREAMS),
     (Property::RunRecord, "run: record after", 4 * STREAMS),
     (Property::RunKept, "run: a record that took no byte is given back", STREAMS / 2),
     (Property::RunReply, "run: every byte lent for the reply", 4 * STREAMS),
     (Property::RunOwn, "run: every byte lent for the action", 4 * STREAMS),
-    (Property::RunShort, "run: room too short by one byte or more", STREAMS / 2),
+    (Property::RunShort, "run: room or data too short by one byte or more", STREAMS / 2),
     (Property::RunEmpty, "run: no raw bytes", STREAMS / 10),
     (Property::ActionsReply, "actions: the reply is the same as without them", TALKS),
     (Property::ActionsNotes, "actions: each is noted, in order", TALKS),
+    (Property::ActionsData, "actions: load data and blocks are stored, in order", TALKS),
     (Property::ActionsEnd, "actions: the reply ends at its last byte, not before", TALKS),
     (Property::ActionsPieces, "actions: the same in two pieces, cut anywhere", TALKS),
-    (Property::ActionsError, "actions: an error ends the call", TALKS / 2),
-    (Property::ActionsRestart, "actions: a restart ends the call", TALKS / 8),
+    (Property::ActionsError, "actions: an error ends the call and its transfers", TALKS / 2),
+    (Property::ActionsRestart, "actions: a restart ends the call and its transfers", TALKS / 8),
     (Property::InputReplies, "inputs: finished replies of each call", 1),
     (Property::InputActions, "inputs: each action idle and in each call", 1),
     (Property::InputRefusals, "inputs: each refusal in each place", 1),
     (Property::InputCharacters, "inputs: each character", 1),
-    (Property::InputMarks, "inputs: each mark idle, waiting and in each action", 1),
+    (Property::InputMarks, "inputs: each mark idle, waiting, in each action and nest", 1),
     (Property::InputEscaped, "inputs: &9B at each place of replies and actions", 1),
-    (Property::InputLengths, "inputs: each length of blocks, lines and texts", 1),
-    (Property::InputBegun, "inputs: each call begun in each action and pair", 1),
+    (Property::InputLengths, "inputs: each length of blocks, lines, texts and load data", 1),
+    (Property::InputTransfers, "inputs: data, ends and actions in each nest of transfers", 1),
+    (Property::InputBegun, "inputs: each call begun in each action, nest and pair", 1),
     (Property::InputLate, "inputs: errors and pairs around a begun call", 1),
     (Property::InputResets, "inputs: resets in each state", 1),
-    (Property::InputRecords, "inputs: records of each call, action and count", 1),
+    (Property::InputRecords, "inputs: records of each call, action, count and nest", 1),
     (Property::InputBeyond, "inputs: records beyond each limit", 1),
     (Property::InputFlags, "inputs: each number of flags", 1),
     (Property::InputRuns, "inputs: each start and end of a run", 1),
@@ -324,79 +355,122 @@ impl Pair {
 const SETS: [&str; 2] = ["streams", "single steps"];
 
 const WAITS: usize = 1 + CALLS as usize;
-const ACTIONS: usize = 4;
+
+/// What can be told beside characters and replies.
+const REPORTS: [&str; 11] = [
+    "Escape states",
+    "events",
+    "addresses",
+    "blocks",
+    "executes",
+    "loads",
+    "saves",
+    "load data",
+    "ends",
+    "errors",
+    "restarts",
+];
+const A_LOAD: usize = 5;
+const A_SAVE: usize = 6;
+const A_BYTE: usize = 7;
+const AN_END: usize = 8;
+
+/// How many refusals there are, with those that a link never gives.
+const REFUSALS: usize = 14;
 
 /// What the compared bytes of the streams (0) and single steps (1) have been.
 struct Seen {
     /// By streams or steps and call.
     finished: [[u64; CALLS as usize]; 2],
-    /// By streams or steps, what waits, and Escape state, event, address, error,
-    /// restart.
-    reported: [[[u64; 5]; WAITS]; 2],
+    /// By streams or steps, what waits, and report.
+    reported: [[[u64; REPORTS.len()]; WAITS]; 2],
+    /// By streams or steps, nest, and report.
+    reported_nested: [[[u64; REPORTS.len()]; NESTS]; 2],
     /// By streams or steps, what waits, the open action and the number.
-    refused: [[[[u64; 8]; ACTIONS]; WAITS]; 2],
+    refused: [[[[u64; REFUSALS]; ACTIONS]; WAITS]; 2],
+    /// By streams or steps, nest, outside or inside an action, and number.
+    refused_nested: [[[[u64; REFUSALS]; 2]; NESTS]; 2],
     characters: [bool; 256],
     /// While idle, while waiting, and inside each action.
-    marks: [[bool; 256]; 2 + ACTIONS],
+    marks: [[bool; 256]; 1 + ACTIONS],
+    /// Outside actions, by nest.
+    marks_nested: [[bool; 256]; NESTS],
     /// &9B taken into a reply, by call and index, or an action.
     escaped_reply: [[bool; LENT]; CALLS as usize],
     escaped_own: [[bool; LENT]; ACTIONS],
-    /// Of OSWORD's replies, of lines and of texts.
-    lengths: [[bool; 256]; 3],
+    /// &9B taken as load data.
+    escaped_data: u64,
+    /// Of OSWORD's replies, of lines, of texts, of control blocks and of load data
+    /// that a note counts.
+    lengths: [[bool; 256]; 5],
     /// Calls that wait then, by streams or steps, open action, escape and call.
     begun: [[[[u64; CALLS as usize]; 2]; ACTIONS]; 2],
+    /// The same by nest.
+    begun_nested: [[u64; NESTS]; 2],
     /// By streams or steps: complete; refused with 7, with 12, of a call or of a
     /// number that is none; refused with 4.
     begun_otherwise: [[u64; 6]; 2],
     /// Errors opened while idle that end a call; pairs that a call divides.
     late: [u64; 2],
-    /// Waiting, in an action, in a pair, stopped.
-    resets: [u64; 4],
-    /// By what waits and count, and by action and count.
+    /// Waiting, in an action, in a transfer, in a pair, stopped.
+    resets: [u64; 5],
+    /// By what waits and count, by action and count, by control block and count, and
+    /// by nest.
     records: [[u64; LENT]; WAITS],
     records_own: [[u64; LENT]; ACTIONS],
+    records_block: [[u64; 127]; 128],
+    records_nested: [u64; NESTS],
     /// By the limits that a record is beyond.
     beyond: [u64; FAULTS],
     flags: [bool; 256],
     /// By the kind of the end, a refusal by 8 and its number.
-    run_ends: [u64; 17],
-    /// By what waits, open action and escape.
+    run_ends: [u64; 8 + REFUSALS],
+    /// By what waits, open action and escape, and by nest.
     run_starts: [[[u64; 2]; ACTIONS]; WAITS],
-    notes: [u64; NOTE],
-    /// By the room that is left when each byte has its note.
-    rooms: [u64; 8],
-    /// With more notes than a byte and than two bytes can count.
-    long_runs: [u64; 2],
+    run_starts_nested: [u64; NESTS],
+    notes: [u64; 15],
+    /// By the room that is left when each byte has its note, and by the data.
+    rooms: [[u64; 8]; 2],
+    /// With more notes than a byte and than two bytes can count, and with more data.
+    long_runs: [[u64; 2]; 2],
 }
 
 /// The faults that a record can have: a stop, tags and flags out of range, counts
-/// that should be 0, those of each call and of each action.
-const FAULTS: usize = 6 + CALLS as usize + 3;
+/// that should be 0, those of each call and of each action, a fifth load or save.
+const FAULTS: usize = 6 + CALLS as usize + ACTIONS + 1;
 
 impl Seen {
     fn new() -> Box<Seen> {
         Box::new(Seen {
             finished: [[0; CALLS as usize]; 2],
-            reported: [[[0; 5]; WAITS]; 2],
-            refused: [[[[0; 8]; ACTIONS]; WAITS]; 2],
+            reported: [[[0; REPORTS.len()]; WAITS]; 2],
+            reported_nested: [[[0; REPORTS.len()]; NESTS]; 2],
+            refused: [[[[0; REFUSALS]; ACTIONS]; WAITS]; 2],
+            refused_nested: [[[[0; REFUSALS]; 2]; NESTS]; 2],
             characters: [false; 256],
-            marks: [[false; 256]; 2 + ACTIONS],
+            marks: [[false; 256]; 1 + ACTIONS],
+            marks_nested: [[false; 256]; NESTS],
             escaped_reply: [[false; LENT]; CALLS as usize],
             escaped_own: [[false; LENT]; ACTIONS],
-            lengths: [[false; 256]; 3],
+            escaped_data: 0,
+            lengths: [[false; 256]; 5],
             begun: [[[[0; CALLS as usize]; 2]; ACTIONS]; 2],
+            begun_nested: [[0; NESTS]; 2],
             begun_otherwise: [[0; 6]; 2],
             late: [0; 2],
-            resets: [0; 4],
+            resets: [0; 5],
             records: [[0; LENT]; WAITS],
             records_own: [[0; LENT]; ACTIONS],
+            records_block: [[0; 127]; 128],
+            records_nested: [0; NESTS],
             beyond: [0; FAULTS],
             flags: [false; 256],
-            run_ends: [0; 17],
+            run_ends: [0; 8 + REFUSALS],
             run_starts: [[[0; 2]; ACTIONS]; WAITS],
-            notes: [0; NOTE],
-            rooms: [0; 8],
-            long_runs: [0; 2],
+            run_starts_nested: [0; NESTS],
+            notes: [0; 15],
+            rooms: [[0; 8]; 2],
+            long_runs: [[0; 2]; 2],
         })
     }
 
@@ -406,17 +480,34 @@ impl Seen {
             self.refused[set][0][0][7] += 1;
             return;
         }
-        let (wait, action) = (before.wait as usize, before.action as usize);
-        match told {
-            Told::Reply(_) => self.finished[set][wait - 1] += 1,
-            Told::Escape(_) => self.reported[set][wait][0] += 1,
-            Told::Event(_) => self.reported[set][wait][1] += 1,
-            Told::Address(_) => self.reported[set][wait][2] += 1,
-            Told::Error { .. } => self.reported[set][wait][3] += 1,
-            Told::Restart => self.reported[set][wait][4] += 1,
-            Told::Refused(number) => self.refused[set][wait][action][number as usize] += 1,
-            Told::More | Told::Character(_) => {}
-        }
+        let (wait, nest) = (before.wait as usize, nest_of(before) as usize);
+        let report = match told {
+            Told::Escape(_) => 0,
+            Told::Event(_) => 1,
+            Told::Address(_) => 2,
+            Told::Block(_) => 3,
+            Told::Execute(_) => 4,
+            Told::Opened(Transfer::Load, _) => A_LOAD,
+            Told::Opened(Transfer::Save, _) => A_SAVE,
+            Told::Data(_) => A_BYTE,
+            Told::Closed(_) => AN_END,
+            Told::Error { .. } => 9,
+            Told::Restart => 10,
+            Told::Reply(_) => {
+                self.finished[set][wait - 1] += 1;
+                return;
+            }
+            Told::Refused(number) => {
+                let action = class_of(before.action);
+                self.refused[set][wait][action][number as usize] += 1;
+                let inside = (action != 0) as usize;
+                self.refused_nested[set][nest][inside][number as usize] += 1;
+                return;
+            }
+            Told::More | Told::Character(_) => return,
+        };
+        self.reported[set][wait][report] += 1;
+        self.reported_nested[set][nest][report] += 1;
     }
 
     /// Notes a byte of a stream.
@@ -425,28 +516,27 @@ impl Seen {
         if before.stopped() {
             return;
         }
+        let (wait, action) = (before.wait as usize, class_of(before.action));
         let mark = before.escape && raw != 0x9B;
-        if mark {
-            let place = match (before.action, before.wait) {
-                (NO_ACTION, 0) => 0,
-                (NO_ACTION, _) => 1,
-                (action, _) => 1 + action as usize,
-            };
-            self.marks[place][raw as usize] = true;
-        } else if before.escape && !matches!(told, Told::Refused(_)) {
-            match (before.action, before.wait) {
-                (NO_ACTION, 0) => {}
-                (NO_ACTION, wait) => {
-                    self.escaped_reply[wait as usize - 1][before.got] = true;
-                }
-                (action, _) => self.escaped_own[action as usize][before.held] = true,
-            }
+        let doubled = before.escape && raw == 0x9B && !matches!(told, Told::Refused(_));
+        match (action, wait) {
+            (0, 0) if mark => self.marks[0][raw as usize] = true,
+            (0, _) if mark => self.marks[1][raw as usize] = true,
+            (1.., _) if mark => self.marks[1 + action][raw as usize] = true,
+            (1.., _) if doubled => self.escaped_own[action][before.held] = true,
+            _ if matches!(told, Told::Data(0x9B)) => self.escaped_data += 1,
+            (0, 1..) if doubled => self.escaped_reply[wait - 1][before.got] = true,
+            _ => {}
+        }
+        if mark && action == 0 {
+            self.marks_nested[nest_of(before) as usize][raw as usize] = true;
         }
         match (told, before.wait) {
             (Told::Character(byte), _) => self.characters[byte as usize] = true,
             (Told::Reply(length), WAIT_BLOCK) => self.lengths[0][length] = true,
             (Told::Reply(length), 6) if length > 1 => self.lengths[1][length - 2] = true,
             (Told::Error { length, .. }, _) => self.lengths[2][length] = true,
+            (Told::Block(length), _) => self.lengths[3][length] = true,
             _ => {}
         }
     }
@@ -457,8 +547,9 @@ impl Seen {
         let none = (call >= CALLS) as usize;
         match begun {
             Begun::Waits => {
-                let places = &mut self.begun[set][before.action as usize];
+                let places = &mut self.begun[set][class_of(before.action)];
                 places[before.escape as usize][call as usize] += 1;
+                self.begun_nested[set][nest_of(before) as usize] += 1;
             }
             Begun::Complete => otherwise[0] += 1,
             Begun::Refused(7) => otherwise[1 + none] += 1,
@@ -469,12 +560,13 @@ impl Seen {
 
     fn reset(&mut self, link: &Link) {
         if link.stopped() {
-            self.resets[3] += 1;
+            self.resets[4] += 1;
             return;
         }
         self.resets[0] += (link.wait != 0) as u64;
         self.resets[1] += (link.action != 0) as u64;
-        self.resets[2] += link.escape as u64;
+        self.resets[2] += link.open[0].is_some() as u64;
+        self.resets[3] += link.escape as u64;
     }
 
     /// Notes a single step.
@@ -484,15 +576,20 @@ impl Seen {
         self.flags[record.flags as usize] = true;
         if !link.stopped() {
             self.records[link.wait as usize][link.got] += 1;
-            self.records_own[link.action as usize][link.held] += 1;
+            self.records_own[class_of(link.action)][link.held] += 1;
+            if link.action > IN_BLOCK {
+                self.records_block[(link.action - IN_BLOCK) as usize][link.held] += 1;
+            }
+            self.records_nested[nest_of(&link) as usize] += 1;
             return;
         }
         // Counts only records with exactly one fault.
         let mut faults = [false; FAULTS];
-        faults[0] = (LINK_STOPPED..2 * LINK_STOPPED).contains(&record.flags);
+        let class = class_of(record.action);
+        faults[0] = record.flags & LINK_STOPPED != 0 && record.flags <= LINK_FLAGS;
         faults[1] = record.wait as usize >= WAITS;
-        faults[2] = record.action as usize >= ACTIONS;
-        faults[3] = record.flags >= 2 * LINK_STOPPED;
+        faults[2] = class == ACTIONS;
+        faults[3] = record.flags > LINK_FLAGS;
         let reply = link.got >= most(record.wait, record.out_length);
         match record.wait as usize {
             0 => faults[4] = reply,
@@ -500,9 +597,15 @@ impl Seen {
             _ => {}
         }
         let own = link.held >= most_own(record.action);
-        match record.action as usize {
+        match class {
             0 => faults[5] = own,
-            action @ 1..ACTIONS => faults[5 + CALLS as usize + action] = own,
+            1..ACTIONS => faults[5 + CALLS as usize + class] = own,
+            _ => {}
+        }
+        let full = link.open[TRANSFERS - 1].is_some() && record.flags <= LINK_FLAGS;
+        match record.action {
+            LOAD => faults[FAULTS - 2] = full,
+            SAVE => faults[FAULTS - 1] = full,
             _ => {}
         }
         if faults.iter().filter(|&&fault| fault).count() == 1 {
@@ -514,11 +617,14 @@ impl Seen {
     fn run_start(&mut self, link: &Link) {
         if !link.stopped() {
             let starts = &mut self.run_starts[link.wait as usize];
-            starts[link.action as usize][link.escape as usize] += 1;
+            starts[class_of(link.action)][link.escape as usize] += 1;
+            self.run_starts_nested[nest_of(link) as usize] += 1;
         }
     }
 
-    fn run_end(&mut self, told: Told, notes: &[u8], room: usize) {
+    /// Notes what a run gave, and how many bytes of room and data it left beyond
+    /// those that it must be lent.
+    fn run_end(&mut self, told: Told, notes: &[u8], stored: usize, left: [usize; 2]) {
         let (kind, [first, ..], _) = numbers(told);
         let end = match kind {
             REFUSED => kind + first as u32,
@@ -527,10 +633,18 @@ impl Seen {
         self.run_ends[end as usize] += 1;
         for note in notes.chunks(NOTE) {
             self.notes[note[0] as usize] += 1;
+            if note[0] as u32 == DATA {
+                self.lengths[4][note[1] as usize] = true;
+            }
         }
-        self.rooms[room.min(7)] += 1;
-        self.long_runs[0] += (notes.len() > 256 * NOTE) as u64;
-        self.long_runs[1] += (notes.len() > 65_536 * NOTE) as u64;
+        for (rooms, left) in self.rooms.iter_mut().zip(left) {
+            rooms[left.min(7)] += 1;
+        }
+        let counts = [notes.len() / NOTE, stored];
+        for (long, count) in self.long_runs.iter_mut().zip(counts) {
+            long[0] += (count > 256) as u64;
+            long[1] += (count > 65_536) as u64;
+        }
     }
 
     fn report(&self, report: &mut Report) {
@@ -545,6 +659,7 @@ impl Seen {
         report.need(Property::InputMarks, self.few_marks());
         report.need(Property::InputEscaped, self.few_escaped());
         report.need(Property::InputLengths, self.few_lengths());
+        report.need(Property::InputTransfers, self.few_transfers());
         report.need(Property::InputBegun, self.few_begun());
         let few_late = match self.late {
             [..2000, _] => Some("errors opened while idle that end a call".to_string()),
@@ -552,8 +667,14 @@ impl Seen {
             _ => None,
         };
         report.need(Property::InputLate, few_late);
-        const STATES: [&str; 4] = ["waiting", "in an action", "in a pair", "stopped"];
-        let few_resets = (0..4).find(|&state| self.resets[state] < 2000);
+        const STATES: [&str; 5] = [
+            "waiting",
+            "in an action",
+            "in a transfer",
+            "in a pair",
+            "stopped",
+        ];
+        let few_resets = (0..5).find(|&state| self.resets[state] < 2000);
         report.need(
             Property::InputResets,
             few_resets.map(|state| format!("resets of a link {}", STATES[state])),
@@ -579,18 +700,52 @@ impl Seen {
     }
 
     fn few_actions(&self) -> Option<String> {
-        const NAMES: [&str; 5] = ["Escape states", "events", "addresses", "errors", "restarts"];
-        let few =
-            every(2, WAITS, 5).find(|&(set, wait, action)| self.reported[set][wait][action] < 100);
-        few.map(|(set, wait, action)| format!("{} at {wait} in {}", NAMES[action], SETS[set]))
+        let few = every(2, WAITS, REPORTS.len())
+            .find(|&(set, wait, report)| self.reported[set][wait][report] < 100);
+        few.map(|(set, wait, report)| format!("{} at {wait} in {}", REPORTS[report], SETS[set]))
+    }
+
+    fn few_transfers(&self) -> Option<String> {
+        let full = |nest: usize| open_of(nest as u8)[TRANSFERS - 1].is_some();
+        let innermost = |nest: usize| open_of(nest as u8)[0];
+        let told = every(2, NESTS, REPORTS.len()).find(|&(set, nest, report)| {
+            let possible = match report {
+                A_LOAD | A_SAVE => !full(nest),
+                A_BYTE => innermost(nest) == Some(Transfer::Load),
+                AN_END => nest != 0,
+                _ => true,
+            };
+            possible && self.reported_nested[set][nest][report] < 100
+        });
+        let told = told.map(|(set, nest, report)| {
+            format!("{} in nest {nest} in {}", REPORTS[report], SETS[set])
+        });
+        let refused = every(2, NESTS, 2 * REFUSALS).find(|&(set, nest, at)| {
+            let (inside, number) = (at / REFUSALS, at % REFUSALS);
+            let possible = match (number, inside) {
+                (4, 0) | (5 | 6, 1) => true,
+                (5, 0) => nest == 0,
+                (9, 0) => innermost(nest) == Some(Transfer::Save),
+                (13, 0) => full(nest),
+                _ => false,
+            };
+            possible && self.refused_nested[set][nest][inside][number] < 100
+        });
+        let refused = refused.map(|(set, nest, at)| {
+            let (inside, number) = (at / REFUSALS, at % REFUSALS);
+            format!(
+                "refusals {number} in nest {nest}, in an action {inside}, in {}",
+                SETS[set]
+            )
+        });
+        told.or(refused)
     }
 
     fn few_refusals(&self) -> Option<String> {
-        let few = every(2 * WAITS, ACTIONS, 8).find(|&(place, action, number)| {
+        let few = every(2 * WAITS, ACTIONS, REFUSALS).find(|&(place, action, number)| {
             let (set, wait) = (place / WAITS, place % WAITS);
             let possible = match (number, action) {
-                (4, 0) | (6, 1) => true,
-                (5, _) => action != 0,
+                (4 | 9 | 13, 0) | (6, 1) | (5, _) => true,
                 (6, 0) => wait == 1 + OSWORD_0 as usize,
                 (7, 0) => wait == 0,
                 _ => false,
@@ -607,10 +762,16 @@ impl Seen {
     }
 
     fn few_marks(&self) -> Option<String> {
-        const PLACES: [&str; 5] = ["idle", "waiting", "error", "event", "address"];
-        let few =
-            every(1, 5, 256).find(|&(_, place, mark)| mark != 0x9B && !self.marks[place][mark]);
-        few.map(|(_, place, mark)| format!("marks &{mark:02X}, {}", PLACES[place]))
+        let few = every(1, 1 + ACTIONS, 256)
+            .find(|&(_, place, mark)| mark != 0x9B && !self.marks[place][mark]);
+        let nested = every(1, NESTS, 256)
+            .find(|&(_, nest, mark)| mark != 0x9B && !self.marks_nested[nest][mark]);
+        let few = few.map(|(_, place, mark)| match place {
+            0 => format!("marks &{mark:02X} while idle"),
+            1 => format!("marks &{mark:02X} while waiting"),
+            _ => format!("marks &{mark:02X} in action {}", place - 1),
+        });
+        few.or(nested.map(|(_, nest, mark)| format!("marks &{mark:02X} in nest {nest}")))
     }
 
     fn few_escaped(&self) -> Option<String> {
@@ -621,18 +782,25 @@ impl Seen {
             at < most && !self.escaped_reply[call][at]
         });
         let own = every(1, ACTIONS, LENT).find(|&(_, action, at)| {
-            let most = limit(most_own(action as u8));
+            let most = limit(most_of(action));
             action != 0 && at < most && !self.escaped_own[action][at]
         });
         let reply = reply.map(|(_, call, at)| format!("&9B at {at} of the reply to call {call}"));
         let own = own.map(|(_, action, at)| format!("&9B at {at} of action {action}"));
-        reply.or(own)
+        let data = (self.escaped_data < 10_000).then(|| "load data &9B".to_string());
+        reply.or(own).or(data)
     }
 
     fn few_lengths(&self) -> Option<String> {
-        const NAMES: [&str; 3] = ["OSWORD replies", "lines", "texts"];
-        let few = every(1, 3, 256)
-            .find(|&(_, list, length)| (list, length) != (0, 0) && !self.lengths[list][length]);
+        const NAMES: [&str; 5] = ["OSWORD replies", "lines", "texts", "blocks", "load data"];
+        let few = every(1, 5, 256).find(|&(_, list, length)| {
+            let possible = match list {
+                0 | 4 => length > 0,
+                3 => length > 0 && length < 128,
+                _ => true,
+            };
+            possible && !self.lengths[list][length]
+        });
         few.map(|(_, list, length)| format!("{} of {length} bytes", NAMES[list]))
     }
 
@@ -641,6 +809,7 @@ impl Seen {
             .find(|&(set, place, call)| self.begun[set][place / 2][place % 2][call] < 100);
         let otherwise =
             every(1, 2, 6).find(|&(_, set, answer)| self.begun_otherwise[set][answer] < 1000);
+        let nested = every(1, 2, NESTS).find(|&(_, set, nest)| self.begun_nested[set][nest] < 100);
         let few = few.map(|(set, place, call)| {
             format!(
                 "calls {call} begun in action {}, escape {}, in {}",
@@ -649,6 +818,8 @@ impl Seen {
                 SETS[set]
             )
         });
+        let nested =
+            nested.map(|(_, set, nest)| format!("calls begun in nest {nest} in {}", SETS[set]));
         const ANSWERS: [&str; 6] = [
             "complete",
             "refused with 7",
@@ -659,7 +830,7 @@ impl Seen {
         ];
         let otherwise =
             otherwise.map(|(_, set, answer)| format!("calls {} in {}", ANSWERS[answer], SETS[set]));
-        few.or(otherwise)
+        few.or(nested).or(otherwise)
     }
 
     fn few_records(&self) -> Option<String> {
@@ -668,16 +839,21 @@ impl Seen {
             within && self.records[wait][got] < 100
         });
         let own = every(1, ACTIONS, LENT).find(|&(_, action, held)| {
-            let within = held < most_own(action as u8);
+            let within = action != BLOCK_CLASS && held < most_of(action);
             within && self.records_own[action][held] < 100
         });
+        let block = every(1, 128, 127)
+            .find(|&(_, length, held)| held < length && self.records_block[length][held] < 10);
+        let nest = (0..NESTS).find(|&nest| self.records_nested[nest] < 1000);
         let reply = reply.map(|(_, wait, got)| format!("records at {wait} with {got} bytes"));
         let own = own.map(|(_, action, held)| format!("records in action {action}, {held} bytes"));
-        reply.or(own)
+        let block = block.map(|(_, length, held)| format!("blocks of {length}, {held} bytes"));
+        let nest = nest.map(|nest| format!("records with nest {nest}"));
+        reply.or(own).or(block).or(nest)
     }
 
     fn few_runs(&self) -> Option<String> {
-        const ENDS: [u32; 9] = [
+        const ENDS: [u32; 11] = [
             NEED_MORE,
             REPLY,
             interface::ERROR,
@@ -687,6 +863,8 @@ impl Seen {
             REFUSED + 6,
             REFUSED + 7,
             REFUSED + 8,
+            REFUSED + 9,
+            REFUSED + 13,
         ];
         let end = ENDS
             .into_iter()
@@ -697,16 +875,28 @@ impl Seen {
         let start = start.map(|(wait, action, escape)| {
             format!("runs that start at {wait}, action {action}, escape {escape}")
         });
-        let note = (1..NOTE).find(|&kind| self.notes[kind] < 10_000);
+        let nest = (0..NESTS).find(|&nest| self.run_starts_nested[nest] < 100);
+        let nest = nest.map(|nest| format!("runs that start in nest {nest}"));
+        let note = (1..5).chain(9..15).find(|&kind| self.notes[kind] < 10_000);
         let note = note.map(|kind| format!("notes of kind {kind}"));
-        let room = (0..8).find(|&room| self.rooms[room] < 10_000);
-        let room = room.map(|room| format!("runs with {room} bytes of room left"));
-        let long = match self.long_runs {
-            [..1000, _] => Some("runs with more than 256 notes".to_string()),
-            [_, ..10] => Some("runs with more than 65,536 notes".to_string()),
-            _ => None,
-        };
-        end.or(start).or(note).or(room).or(long)
+        const LENT_FOR: [&str; 2] = ["notes", "bytes of data"];
+        let room = every(1, 2, 8).find(|&(_, list, left)| self.rooms[list][left] < 10_000);
+        let room = room.map(|(_, list, left)| {
+            format!(
+                "runs with {left} bytes left that are lent for {}",
+                LENT_FOR[list]
+            )
+        });
+        let long =
+            every(1, 2, 2).find(|&(_, list, size)| self.long_runs[list][size] < [1000, 10][size]);
+        let long = long.map(|(_, list, size)| {
+            format!(
+                "runs with more than {} {}",
+                [256, 65_536][size],
+                LENT_FOR[list]
+            )
+        });
+        end.or(start).or(nest).or(note).or(room).or(long)
     }
 }
 
@@ -802,17 +992,42 @@ fn compare_begin(
 
 // ---- Runs ----
 
-/// Lends room of this length between guards, with random bytes.
+/// Room and data that are lent to a run, between guard bytes.
+#[derive(Clone, PartialEq)]
+struct Rooms {
+    notes: Vec<u8>,
+    data: Vec<u8>,
+}
+
+/// Lends so many bytes between guards, with random bytes.
 fn random_room(random: &mut Random, length: usize) -> Vec<u8> {
     let mut room = vec![0; GUARD + length + GUARD];
     random.fill(&mut room);
     room
 }
 
-fn library_run(record: TubeLink, raw: &[u8], arrays: &mut Arrays, room: &mut [u8]) -> TubeRan {
-    let (reply, own) = arrays.pointers();
-    let room = &mut room[GUARD..];
+fn within(room: &mut [u8]) -> &mut [u8] {
     let length = room.len() - GUARD;
+    &mut room[GUARD..length]
+}
+
+impl Rooms {
+    fn random(random: &mut Random, notes: usize, data: usize) -> Rooms {
+        Rooms {
+            notes: random_room(random, notes),
+            data: random_room(random, data),
+        }
+    }
+}
+
+/// How many bytes a run must be lent for its notes and for its data.
+fn needed(record: &TubeLink, raw: &[u8]) -> (usize, usize) {
+    (NOTE * raw.len(), raw.len() + record.held as usize)
+}
+
+fn library_run(record: TubeLink, raw: &[u8], arrays: &mut Arrays, rooms: &mut Rooms) -> TubeRan {
+    let (reply, own) = arrays.pointers();
+    let (notes, data) = (within(&mut rooms.notes), within(&mut rooms.data));
     unsafe {
         tube_run(
             record,
@@ -820,8 +1035,10 @@ fn library_run(record: TubeLink, raw: &[u8], arrays: &mut Arrays, room: &mut [u8
             raw.len(),
             reply,
             own,
-            room.as_mut_ptr(),
-            length,
+            notes.as_mut_ptr(),
+            notes.len(),
+            data.as_mut_ptr(),
+            data.len(),
         )
     }
 }
@@ -835,24 +1052,28 @@ fn compare_run(
     report: &mut Report,
     what: &dyn Fn() -> String,
 ) -> usize {
-    if !raw.is_empty() && random.one_in(4) {
+    let (record, link) = (pair.record, pair.link);
+    let (notes, data) = needed(&record, raw);
+    if data > 0 && random.one_in(4) {
         compare_short(random, pair, raw, seen, report, what);
     }
-    let (record, link) = (pair.record, pair.link);
     seen.run_start(&link);
-    let left = random.below(8);
-    let before = random_room(random, NOTE * raw.len() + left);
-    let (mut room, mut expected) = (before.clone(), before.clone());
-    let library = library_run(record, raw, &mut pair.library, &mut room);
+    let left = [random.below(8), random.below(8)];
+    let before = Rooms::random(random, notes + left[0], data + left[1]);
+    let (mut rooms, mut expected) = (before.clone(), before.clone());
+    let library = library_run(record, raw, &mut pair.library, &mut rooms);
     let Arrays { reply, own } = &mut pair.second;
-    let length = before.len() - GUARD;
-    let ran = pair
-        .link
-        .run(raw, lent(reply), lent(own), &mut expected[GUARD..length]);
+    let ran = pair.link.run(
+        raw,
+        lent(reply),
+        lent(own),
+        within(&mut expected.notes),
+        within(&mut expected.data),
+    );
     let after = library.told.link;
     pair.record = after;
     let notes = GUARD..GUARD + NOTE * ran.noted;
-    seen.run_end(ran.told, &expected[notes.clone()], left);
+    seen.run_end(ran.told, &expected.notes[notes.clone()], ran.stored, left);
 
     let (kind, values, length) = numbers(ran.told);
     let mut all = true;
@@ -878,16 +1099,31 @@ fn compare_run(
     check(Property::RunLength, library.told.length == length, &answers);
     check(Property::RunUsed, library.used == ran.used, &answers);
     check(Property::RunNoted, library.noted == ran.noted, &answers);
-    if ran.noted != 0 {
-        let good = room[notes.clone()] == expected[notes.clone()];
-        check(Property::RunNotes, good, &|| {
-            difference(&room, &expected, GUARD)
-        });
+    check(Property::RunStored, library.stored == ran.stored, &answers);
+    let lists = [
+        (
+            Property::RunNotes,
+            Property::RunBeyond,
+            &rooms.notes,
+            &expected.notes,
+            notes.end,
+        ),
+        (
+            Property::RunData,
+            Property::RunDataBeyond,
+            &rooms.data,
+            &expected.data,
+            GUARD + ran.stored,
+        ),
+    ];
+    for (written, beyond, found, expected, end) in lists {
+        let at = || difference(found, expected, GUARD);
+        if end > GUARD {
+            check(written, found[GUARD..end] == expected[GUARD..end], &at);
+        }
+        let stays = found[..GUARD] == expected[..GUARD] && found[end..] == expected[end..];
+        check(beyond, stays, &at);
     }
-    let beyond = room[..GUARD] == before[..GUARD] && room[notes.end..] == before[notes.end..];
-    check(Property::RunBeyond, beyond, &|| {
-        difference(&room, &expected, GUARD)
-    });
     let (property, good) = match ran.told {
         _ if raw.is_empty() || link.stopped() => (Property::RunKept, after == record),
         Told::Refused(_) if ran.used == 1 => (Property::RunRecord, after == record.stopped()),
@@ -915,7 +1151,17 @@ fn compare_run(
     ran.used
 }
 
-/// Room that is too short: nothing is used or touched.
+/// A length that is too short, most often by one, and that of the raw bytes where
+/// that is too short.
+fn too_short(random: &mut Random, whole: usize, raw: &[u8]) -> usize {
+    match random.below(4) {
+        0 => random.below(whole),
+        1 => raw.len().min(whole - 1),
+        _ => whole - 1,
+    }
+}
+
+/// Room or data that is too short, or both: nothing is used or touched.
 fn compare_short(
     random: &mut Random,
     pair: &Pair,
@@ -924,29 +1170,31 @@ fn compare_short(
     report: &mut Report,
     what: &dyn Fn() -> String,
 ) {
-    let whole = NOTE * raw.len();
-    let length = match random.below(4) {
-        0 => random.below(whole),
-        1 => raw.len(),
-        _ => whole - 1,
-    };
-    let before = random_room(random, length);
-    let (mut room, mut arrays) = (before.clone(), pair.library);
-    let ran = library_run(pair.record, raw, &mut arrays, &mut room);
+    let (mut notes, mut data) = needed(&pair.record, raw);
+    let list = random.below(3);
+    if list != 0 || raw.is_empty() {
+        data = too_short(random, data, raw);
+    }
+    if list != 1 && !raw.is_empty() {
+        notes = too_short(random, notes, raw);
+    }
+    let before = Rooms::random(random, notes, data);
+    let (mut rooms, mut arrays) = (before.clone(), pair.library);
+    let ran = library_run(pair.record, raw, &mut arrays, &mut rooms);
     let told = ran.told;
-    let untouched = room == before && arrays == pair.library;
+    let untouched = rooms == before && arrays == pair.library;
     let good = (told.kind, told.values(), told.length) == (REFUSED, [8, 0, 0, 0], 0)
         && told.link == pair.record
-        && (ran.used, ran.noted) == (0, 0);
+        && (ran.used, ran.noted, ran.stored) == (0, 0, 0);
     report.check(Property::RunShort, good && untouched, || {
         format!(
-            "{ran:?}: {length} bytes of room for {} raw bytes on {:?}, all untouched {untouched}, {}",
+            "{ran:?}: {notes} bytes of room, {data} of data for {} raw bytes on {:?}, all untouched {untouched}, {}",
             raw.len(),
             pair.record,
             what()
         )
     });
-    seen.run_end(Told::Refused(8), &[], 0);
+    seen.run_end(Told::Refused(8), &[], 0, [0, 0]);
 }
 
 // ---- Streams ----
@@ -974,32 +1222,30 @@ fn put(events: &mut Vec<Event>, raw: &[u8]) {
     events.extend(raw.iter().map(|&byte| Event::Raw(byte)));
 }
 
-/// Adds actions, now and then an error; some break a rule.
+/// Adds actions, now and then an error, also one inside open transfers; some break
+/// a rule.
 fn put_actions(random: &mut Random, events: &mut Vec<Event>, mixture: usize, broken: bool) {
     for _ in 0..1 + random.below(2) {
-        let raw = match random.below(12) {
-            0 if broken => {
-                let length = 256 + random.below(3);
-                random.error(mixture, length)
+        let raw = match random.below(14) {
+            0..4 if broken => random.broken(mixture),
+            number @ 4..8 => {
+                let length = match number {
+                    4 => random.length(),
+                    _ => random.below(4),
+                };
+                let depth = random.below(1 + TRANSFERS);
+                let before = match random.one_in(2) {
+                    true => random.nest(mixture, depth).raw,
+                    false => Vec::new(),
+                };
+                let error = match number {
+                    7 => vec![0x9B, 0, 0, 0],
+                    _ => random.error(mixture, length),
+                };
+                [before, error].concat()
             }
-            1 if broken => vec![0x9B, random.byte()],
-            2 if broken => {
-                let mut raw = random.action(mixture).raw;
-                let mark = random.mark();
-                let inside = 2 + random.below(raw.len() - 1);
-                raw.splice(inside.min(raw.len())..raw.len(), [0x9B, mark]);
-                raw
-            }
-            3 => vec![0x9B, 0, 0, 0],
-            4 => {
-                let length = random.length();
-                random.error(mixture, length)
-            }
-            5 => {
-                let length = random.below(4);
-                random.error(mixture, length)
-            }
-            _ => random.action(mixture).raw,
+            8 => random.nested(mixture),
+            _ => random.action(mixture),
         };
         put(events, &raw);
     }
@@ -1022,12 +1268,16 @@ fn talk(random: &mut Random, broken: bool) -> Vec<Event> {
         if random.one_in(12) {
             out_length = 0;
         }
-        let early = match random.below(3) {
-            0 => random.below(8),
-            1 => random.below(3),
-            _ => 0,
+        let at = match random.below(4) {
+            0 => events.len().saturating_sub(random.below(8)),
+            1 => events.len().saturating_sub(random.below(3)),
+            2 => {
+                let action = random.action(mixture);
+                put(&mut events, &action);
+                events.len() - action.len() + random.below(action.len().min(14))
+            }
+            _ => events.len(),
         };
-        let at = events.len().saturating_sub(early);
         events.insert(at, Event::Begin(call, out_length));
         let mut reply = random.reply((call, out_length), mixture);
         if broken && call == OSWORD_0 && random.one_in(2) {
@@ -1088,19 +1338,22 @@ fn noise(random: &mut Random) -> Vec<Event> {
     let mixture = random.below(3);
     let most = if random.one_in(8) { 600 } else { 60 };
     let length = 1 + random.below(most);
-    (0..length)
-        .map(|_| match random.below(64) {
-            0 => Event::Reset,
+    let mut events = Vec::new();
+    for _ in 0..length {
+        match random.below(64) {
+            0 => events.push(Event::Reset),
             1..5 => {
                 let (call, out_length) = random.call();
-                Event::Begin(call, out_length)
+                events.push(Event::Begin(call, out_length));
             }
-            5 => Event::Begin(random.byte(), random.byte()),
-            6..12 => Event::Raw(random.mark()),
-            12..16 => Event::Raw(0x9B),
-            _ => Event::Raw(random.mixed(mixture)),
-        })
-        .collect()
+            5 => events.push(Event::Begin(random.byte(), random.byte())),
+            6..12 => events.push(Event::Raw(random.mark())),
+            12..16 => events.push(Event::Raw(0x9B)),
+            16..20 => put(&mut events, &[0x9B, random.mark()]),
+            _ => events.push(Event::Raw(random.mixed(mixture))),
+        }
+    }
+    events
 }
 
 /// The events up to one, in words.
@@ -1235,8 +1488,8 @@ fn compare_streams(random: &mut Random, count: u64, seen: &mut Seen, report: &mu
     }
 }
 
-/// Replies, lines and texts of every length with &9B at one place or at all;
-/// every mark in each state; every character.
+/// Replies, lines, texts, control blocks and load data of every length with &9B at
+/// one place or at all; every mark in each state; every character.
 fn compare_each(random: &mut Random, seen: &mut Seen, report: &mut Report) {
     let mut compare = |random: &mut Random, events: &[Event], name: &str| {
         compare_stream(random, events, name, seen, report);
@@ -1270,8 +1523,28 @@ fn compare_each(random: &mut Random, seen: &mut Seen, report: &mut Report) {
             compare(random, &events, "each text");
         }
     }
+    for length in 0..=600 {
+        for (mixture, wait) in [(0, 0), (2, 0), (3, 0), (0, 1), (2, 1), (3, 1)] {
+            let mut events = Vec::new();
+            if wait == 1 {
+                let (call, out_length) = random.call();
+                events.push(Event::Begin(call, out_length));
+            }
+            put(&mut events, &[0x9B, 0xE0, 1, 2, 3, 4]);
+            put(&mut events, &escaped(&random.bytes(mixture, length)));
+            if length < 128 {
+                put(&mut events, &[0x9B, length as u8]);
+                put(&mut events, &escaped(&random.bytes(mixture, length)));
+                put(&mut events, &[0]);
+            }
+            put(&mut events, &[0x9B, 0xB0]);
+            put(&mut events, b"ABC");
+            compare(random, &events, "each block and load");
+        }
+    }
     for byte in 0..=255 {
         put_each_byte(random, byte, &mut compare);
+        put_each_nest(random, byte, &mut compare);
     }
 }
 
@@ -1284,27 +1557,55 @@ fn put_each_byte(
     let mut events = Vec::new();
     put(&mut events, &[byte, byte, 0x41]);
     compare(random, &events, "each character");
-    let states = [
-        (NO_ACTION, 0x80),
-        (ERROR, 0x00),
-        (EVENT, 0x90),
-        (ADDRESS, 0xC0),
-    ];
-    for (action, mark) in states {
+    // Marks that begin each kind of action, and one that begins none.
+    let marks = [0x80, 0x00, 0x90, 0xC0, 0xD0, 0xE0, 0xF0, 0x7F];
+    for (class, mark) in marks.into_iter().enumerate() {
         for wait in 0..=CALLS {
             let mut events = Vec::new();
-            let out_length = random.at_least(1);
-            if wait != 0 {
-                events.push(Event::Begin(wait - 1, out_length));
-                let reply = random.reply((wait - 1, out_length), 1);
-                let taken = random.below(reply.len());
-                put(&mut events, &escaped(&reply[..taken]));
-            }
+            put_reply_begun(random, &mut events, wait);
             put(&mut events, &[0x9B, mark]);
-            let held = random.below(most_own(action).min(40));
+            let held = random.below(most_of(class).min(40));
             put(&mut events, &[0x41; 40][..held]);
             put(&mut events, &[0x9B, byte, byte, 0x41, 0x00]);
             compare(random, &events, "each mark");
+        }
+    }
+}
+
+/// A call of which some bytes of the reply have come; none where nothing waits.
+fn put_reply_begun(random: &mut Random, events: &mut Vec<Event>, wait: u8) {
+    if wait != 0 {
+        let out_length = random.at_least(1);
+        events.push(Event::Begin(wait - 1, out_length));
+        let reply = random.reply((wait - 1, out_length), 1);
+        let taken = random.below(reply.len());
+        put(events, &escaped(&reply[..taken]));
+    }
+}
+
+/// A byte as data and as a mark, and an error, in each nest of transfers, then ends
+/// and data.
+fn put_each_nest(
+    random: &mut Random,
+    byte: u8,
+    compare: &mut dyn FnMut(&mut Random, &[Event], &str),
+) {
+    for nest in 0..NESTS as u8 {
+        let mixture = random.below(4);
+        let error = random.error(mixture, 252 + byte as usize % 8);
+        let refused = vec![0x9B, 0xA0 + byte % 16];
+        for piece in [escaped(&[byte]), vec![0x9B, byte], refused, error] {
+            let mut events = Vec::new();
+            let wait = random.below(WAITS) as u8;
+            put_reply_begun(random, &mut events, wait);
+            put(&mut events, &opened(nest));
+            put(&mut events, &piece);
+            for _ in 0..3 {
+                let length = random.below(6);
+                put(&mut events, &escaped(&random.bytes(mixture, length)));
+                put(&mut events, &[0x9B, random.low_bits(0xB0)]);
+            }
+            compare(random, &events, "each nest");
         }
     }
 }
@@ -1318,6 +1619,7 @@ struct Bench {
     record: TubeLink,
     arrays: Arrays,
     notes: Vec<u8>,
+    data: Vec<u8>,
 }
 
 impl Bench {
@@ -1326,6 +1628,7 @@ impl Bench {
             record: unsafe { tube_link() },
             arrays,
             notes: Vec::new(),
+            data: Vec::new(),
         }
     }
 
@@ -1333,22 +1636,34 @@ impl Bench {
         self.record = unsafe { tube_begin(self.record, call, out_length) }.link;
     }
 
-    /// Runs over raw bytes; the kind, and whether all of them were used.
+    /// Runs over raw bytes; the answer, and whether all of them were used.
     fn run(&mut self, raw: &[u8]) -> (TubeTold, bool) {
-        let mut room = vec![0; GUARD + NOTE * raw.len() + GUARD];
-        let ran = library_run(self.record, raw, &mut self.arrays, &mut room);
+        let (notes, data) = needed(&self.record, raw);
+        let mut rooms = Rooms {
+            notes: vec![0; GUARD + notes + GUARD],
+            data: vec![0; GUARD + data + GUARD],
+        };
+        let ran = library_run(self.record, raw, &mut self.arrays, &mut rooms);
         self.record = ran.told.link;
-        let noted = ran.noted.min(raw.len());
-        self.notes.extend(&room[GUARD..GUARD + NOTE * noted]);
+        let (noted, stored) = (ran.noted.min(raw.len()), ran.stored.min(data));
+        self.notes.extend(&rooms.notes[GUARD..GUARD + NOTE * noted]);
+        self.data.extend(&rooms.data[GUARD..GUARD + stored]);
         (ran.told, ran.used == raw.len())
     }
 
     /// The finished reply, where the last run gave it with its last byte.
     fn reply(&mut self, raw: &[u8]) -> Option<Vec<u8>> {
         let (told, all) = self.run(raw);
-        let idle = self.record.shows(&Link::new(), self.record.out_length);
-        let good = all && told.kind == REPLY && idle;
+        let good = all && told.kind == REPLY && self.idle();
         good.then(|| lent(&mut self.arrays.reply)[..told.length.min(LENT)].to_vec())
+    }
+
+    fn idle(&self) -> bool {
+        self.record.shows(&Link::new(), self.record.out_length)
+    }
+
+    fn told(&self) -> Vec<Vec<u8>> {
+        told_by(&self.notes, &self.data)
     }
 }
 
@@ -1358,7 +1673,8 @@ fn compare_actions(random: &mut Random, count: u64, report: &mut Report) {
         let laden = Laden::new(random);
         let arrays = Arrays::random(random);
         let what = || {
-            let start = &laden.raw[..laden.raw.len().min(60)];
+            let raw = &laden.sent.raw;
+            let start = &raw[..raw.len().min(60)];
             format!(
                 "reply {number}, call {:?}, plain {:02X?}, raw {start:02X?}",
                 laden.kind, laden.plain
@@ -1376,50 +1692,65 @@ fn compare_laden(
     report: &mut Report,
     what: &dyn Fn() -> String,
 ) {
+    let sent = &laden.sent;
+    let told = told_by(&sent.notes, &sent.data);
     let mut bare = Bench::new(arrays);
     bare.begin(laden.kind);
     let reply = bare.reply(&escaped(&laden.plain));
     let good = reply.as_ref() == Some(&laden.plain) && bare.notes.is_empty();
 
+    let mut full = Bench::new(arrays);
+    full.begin(laden.kind);
+    let same = full.reply(&sent.raw) == reply && full.arrays.reply == bare.arrays.reply;
+    let mut own = arrays.own;
+    lent(&mut own)[..sent.own.len()].copy_from_slice(&sent.own);
+    let same = same && full.arrays.own == own;
+    report.check(Property::ActionsNotes, full.notes == sent.notes, || {
+        format!("{:02X?}: {}", full.notes, what())
+    });
+    report.check(Property::ActionsData, full.data == sent.data, || {
+        format!("{:02X?}: {}", full.data, what())
+    });
+
     // The call begins somewhere in the first action where one leads.
     let early = random.below(laden.leading + 1);
-    let mut full = Bench::new(arrays);
-    let (told, all) = full.run(&laden.raw[..early]);
-    let waited = all && (told.kind == NEED_MORE);
-    full.begin(laden.kind);
-    let same = full.reply(&laden.raw[early..]) == reply && full.arrays.reply == bare.arrays.reply;
-    report.check(Property::ActionsReply, good && waited && same, || {
+    let mut late = Bench::new(arrays);
+    let (first, all) = late.run(&sent.raw[..early]);
+    late.begin(laden.kind);
+    let begun = all
+        && first.kind == NEED_MORE
+        && late.reply(&sent.raw[early..]) == reply
+        && late.told() == told
+        && late.arrays == full.arrays;
+    report.check(Property::ActionsReply, good && same && begun, || {
         format!("call begun after {early} bytes: {}", what())
-    });
-    report.check(Property::ActionsNotes, full.notes == laden.notes, || {
-        format!("{:02X?}: {}", full.notes, what())
     });
 
     let mut ends = Bench::new(arrays);
     ends.begin(laden.kind);
-    let (last, before) = laden.raw.split_last().unwrap();
-    let (told, all) = ends.run(before);
-    let end = all && told.kind == NEED_MORE && ends.reply(&[*last]) == reply;
+    let (last, before) = sent.raw.split_last().unwrap();
+    let (first, all) = ends.run(before);
+    let end = all && first.kind == NEED_MORE && ends.reply(&[*last]) == reply;
     report.check(Property::ActionsEnd, end, || {
-        format!("{told:?}: {}", what())
+        format!("{first:?}: {}", what())
     });
 
     let mut cut_up = Bench::new(arrays);
     cut_up.begin(laden.kind);
-    let cut = random.below(laden.raw.len());
-    let (told, all) = cut_up.run(&laden.raw[..cut]);
+    let cut = random.below(sent.raw.len());
+    let (first, all) = cut_up.run(&sent.raw[..cut]);
     let same = all
-        && told.kind == NEED_MORE
-        && cut_up.reply(&laden.raw[cut..]) == reply
-        && cut_up.notes == laden.notes
+        && first.kind == NEED_MORE
+        && cut_up.reply(&sent.raw[cut..]) == reply
+        && cut_up.told() == told
         && cut_up.arrays == full.arrays;
     report.check(Property::ActionsPieces, same, || {
         format!("cut after {cut} bytes: {}", what())
     });
 }
 
-/// An error or a restart before some byte of a reply; what remains of it is
-/// characters then.
+/// An error or a restart before some byte of a reply, in transfers that are open
+/// there; what remains of the reply is characters then.
 fn compare_ended(
     random: &mut Random,
     laden: &Laden,
@@ -1435,10 +1766,12 @@ fn compare_ended(
         false => (1 + random.below(255) as u8, random.length()),
     };
     let mixture = random.below(4);
+    let depth = random.below(1 + TRANSFERS);
+    let nest = random.nest(mixture, depth);
     let text = random.without(0x00, mixture, length);
     let own = [&[number], &text[..], &[0]].concat();
     let error = [&[0x9B, 0x00], &escaped(&own)[..]].concat();
-    let raw = [escaped(taken), error].concat();
+    let raw = [escaped(taken), nest.raw, error].concat();
 
     let mut bench = Bench::new(arrays);
     bench.begin(laden.kind);
@@ -1448,15 +1781,18 @@ fn compare_ended(
         false => (interface::ERROR, [number, 0, 0, 0], length),
     };
     let mut after = arrays;
+    lent(&mut after.own)[..nest.own.len()].copy_from_slice(&nest.own);
     lent(&mut after.own)[..own.len()].copy_from_slice(&own);
     lent(&mut after.reply)[..at].copy_from_slice(taken);
     let ended = all
         && (told.kind, told.values(), told.length) == expected
-        && bench.notes.is_empty()
+        && bench.notes == nest.notes
+        && bench.data == nest.data
         && bench.arrays == after
-        && bench.record.shows(&Link::new(), bench.record.out_length);
+        && bench.idle();
 
     let characters: Vec<u8> = rest.iter().flat_map(|&byte| [1, byte, 0, 0, 0]).collect();
+    bench.notes.clear();
     let (told, all) = bench.run(&escaped(rest));
     let passed = all && told.kind == NEED_MORE && bench.notes == characters;
     let property = match restart {
@@ -1465,7 +1801,7 @@ fn compare_ended(
     };
     report.check(property, ended && passed, || {
         format!(
-            "{told:?}, ended {ended}, then characters {passed}: error {number} with {length} bytes before byte {at}, {}",
+            "{told:?}, ended {ended}, then characters {passed}: error {number} with {length} bytes in {depth} transfers before byte {at}, {}",
             what()
         )
     });
@@ -1473,7 +1809,7 @@ fn compare_ended(
 
 // ---- Single steps from any record ----
 
-const STEPS: u64 = 3_000_000;
+const STEPS: u64 = 4_000_000;
 
 impl Random {
     /// A count around a limit, most often below it.
@@ -1501,12 +1837,13 @@ impl Random {
             6..10 => WAIT_BLOCK + self.below(2) as u8,
             _ => 1 + self.below(CALLS as usize) as u8,
         };
-        let action = match self.below(24) {
-            0 => self.at_least(ACTIONS as u8),
-            1 => ACTIONS as u8,
-            2..12 => NO_ACTION,
-            12..16 => ERROR,
-            _ => ERROR + self.below(3) as u8,
+        let action = match self.below(32) {
+            0 => self.byte(),
+            1 => SAVE + 1 + self.below((IN_BLOCK - SAVE) as usize) as u8,
+            2..16 => NO_ACTION,
+            16..20 => ERROR,
+            20..23 => self.at_least(SHORTEST_BLOCK),
+            _ => ERROR + self.below(SAVE as usize) as u8,
         };
         let out_length = match self.below(6) {
             0 => 0,
@@ -1521,11 +1858,20 @@ impl Random {
             out_length,
             action,
             flags: match self.below(24) {
-                0 => self.at_least(2 * LINK_STOPPED),
-                1 => LINK_STOPPED + self.below(2) as u8,
-                _ => self.below(2) as u8,
+                0 => self.at_least(LINK_FLAGS + 1),
+                1 => LINK_STOPPED + self.flags(),
+                _ => self.flags(),
             },
         }
+    }
+
+    /// Flags of a link that is not stopped.
+    fn flags(&mut self) -> u8 {
+        let nest = match self.one_in(2) {
+            true => self.below(NESTS) as u8,
+            false => 0,
+        };
+        LINK_NESTED * nest + LINK_ESCAPE * self.below(2) as u8
     }
 
     /// Lent bytes, near the rules that look at them in many cases.
@@ -1588,34 +1934,38 @@ fn compare_begun(
 fn compare_counts(random: &mut Random, seen: &mut Seen, report: &mut Report) {
     const RAWS: [u8; 7] = [0x9B, 0x0D, 0x00, 0x7F, 0x80, 0x41, 0xA0];
     for (tag, count, at) in every(WAITS + 2, LENT + 4, 2 * RAWS.len()) {
-        let idle = TubeLink {
-            flags: LINK_ESCAPE * (at % 2) as u8,
-            ..unsafe { tube_link() }
-        };
         let record = TubeLink {
             got: count as u16,
             wait: tag as u8,
             out_length: random.at_least(250),
-            ..idle
+            flags: LINK_ESCAPE * (at % 2) as u8,
+            ..unsafe { tube_link() }
         };
         compare_step(random, record, RAWS[at / 2], seen, report);
-        let waiting = random.below(WAITS) as u8;
-        let record = TubeLink {
-            held: count as u16,
-            wait: waiting,
-            out_length: 1,
-            action: tag as u8,
-            ..idle
+    }
+    for (action, count, at) in every(256, LENT + 4, 2 * RAWS.len()) {
+        let flags = match random.below(4) {
+            0 => random.flags() & !LINK_ESCAPE,
+            _ => 0,
         };
-        if tag <= ACTIONS {
+        let record = TubeLink {
+            got: 0,
+            held: count as u16,
+            wait: random.below(WAITS) as u8,
+            out_length: 1,
+            action: action as u8,
+            flags: flags + LINK_ESCAPE * (at % 2) as u8,
+        };
+        // Counts far beyond the limit are left to the random records.
+        if count <= most_own(record.action) + 3 {
             compare_step(random, record, RAWS[at / 2], seen, report);
         }
     }
 }
 
-/// Errors of a few bytes in every call, so that many are restarts.
+/// Errors of a few bytes in every call and nest, so that many are restarts.
 fn compare_restarts(random: &mut Random, seen: &mut Seen, report: &mut Report) {
-    for (wait, held, _) in every(WAITS, 4, 1000) {
+    for (wait, held, at) in every(WAITS, 4, 2000) {
         let out_length = random.at_least(1);
         let record = TubeLink {
             got: random.below(most(wait as u8, out_length)) as u16,
@@ -1623,26 +1973,35 @@ fn compare_restarts(random: &mut Random, seen: &mut Seen, report: &mut Report) {
             wait: wait as u8,
             out_length,
             action: ERROR,
-            flags: 0,
+            flags: LINK_NESTED * (at % NESTS) as u8,
         };
         let raw = if random.one_in(2) { 0 } else { random.byte() };
         compare_step(random, record, raw, seen, report);
     }
 }
 
-/// Every byte in every state; every number of flags.
+/// The open action of a kind, of `ACTIONS` a number that is none.
+fn action_of(random: &mut Random, class: usize) -> u8 {
+    match class {
+        BLOCK_CLASS => random.at_least(SHORTEST_BLOCK),
+        ACTIONS => SAVE + 1 + random.below((IN_BLOCK - SAVE) as usize) as u8,
+        _ => class as u8,
+    }
+}
+
+/// Every byte in every state and in every nest; every number of flags.
 fn compare_states(random: &mut Random, seen: &mut Seen, report: &mut Report) {
-    for (wait, action, at) in every(WAITS + 1, ACTIONS + 1, 512) {
-        let out_length = random.at_least(1);
-        let record = TubeLink {
-            got: random.below(most(wait as u8, out_length)) as u16,
-            held: random.below(most_own(action as u8)) as u16,
-            wait: wait as u8,
-            out_length,
-            action: action as u8,
-            flags: if at < 256 { 0 } else { LINK_ESCAPE },
-        };
-        compare_step(random, record, at as u8, seen, report);
+    for (wait, class, at) in every(WAITS + 1, ACTIONS + 1, 512) {
+        let action = action_of(random, class);
+        let flags = if at < 256 { 0 } else { LINK_ESCAPE };
+        compare_state(random, (wait, action, flags), at as u8, seen, report);
+    }
+    for (nest, class, at) in every(NESTS + 1, ACTIONS + 1, 512) {
+        let action = action_of(random, class);
+        let escape = if at < 256 { 0 } else { LINK_ESCAPE };
+        let flags = LINK_NESTED * nest as u8 + escape;
+        let wait = random.below(WAITS);
+        compare_state(random, (wait, action, flags), at as u8, seen, report);
     }
     for (_, number, raw) in every(1, 256, 256) {
         let mut record = random.link_record();
@@ -1651,14 +2010,34 @@ fn compare_states(random: &mut Random, seen: &mut Seen, report: &mut Report) {
     }
 }
 
+/// A byte in a state, the counts within the limits.
+fn compare_state(
+    random: &mut Random,
+    (wait, action, flags): (usize, u8, u8),
+    raw: u8,
+    seen: &mut Seen,
+    report: &mut Report,
+) {
+    let out_length = random.at_least(1);
+    let record = TubeLink {
+        got: random.below(most(wait as u8, out_length)) as u16,
+        held: random.below(most_own(action)) as u16,
+        wait: wait as u8,
+        out_length,
+        action,
+        flags,
+    };
+    compare_step(random, record, raw, seen, report);
+}
+
 /// Every call on every kind of record.
 fn compare_calls(random: &mut Random, seen: &mut Seen, report: &mut Report) {
-    for (wait, action, call) in every(WAITS + 1, ACTIONS + 1, 256) {
+    for (wait, class, call) in every(WAITS + 1, ACTIONS + 1, 256) {
         for at in 0..6 {
             let mut record = random.link_record();
-            (record.wait, record.action) = (wait as u8, action as u8);
+            (record.wait, record.action) = (wait as u8, action_of(random, class));
             if at < 5 {
-                record.flags &= LINK_ESCAPE;
+                record.flags = random.flags();
                 record.got = random.below(most(record.wait, record.out_length).max(1)) as u16;
                 record.held = random.below(most_own(record.action)) as u16;
             }
@@ -1722,7 +2101,8 @@ fn compare_runs(random: &mut Random, count: u64, seen: &mut Seen, report: &mut R
 
 const LONG_RUNS: u64 = 2000;
 
-/// Runs with many notes: characters, and an action now and then.
+/// Runs with many notes or much data: characters or load data, and an action now and
+/// then.
 fn compare_long(random: &mut Random, count: u64, seen: &mut Seen, report: &mut Report) {
     for number in 0..count {
         let length = match number % 100 {
@@ -1731,7 +2111,7 @@ fn compare_long(random: &mut Random, count: u64, seen: &mut Seen, report: &mut R
         };
         let mut raw = escaped(&random.bytes(0, length));
         for _ in 0..random.below(4) {
-            let action = random.action(1).raw;
+            let action = random.action(1);
             let at = random.below(length / 2);
             // Not inside a pair.
             if raw[at..at + 2].iter().all(|&byte| byte != 0x9B) {
@@ -1741,6 +2121,12 @@ fn compare_long(random: &mut Random, count: u64, seen: &mut Seen, report: &mut R
         let mut pair = Pair::fresh(random);
         let what = || format!("long run {number}");
         compare_run(random, &mut pair, &raw, seen, report, &what);
+        // The same as load data.
+        let mut load = vec![0x9B, 0xE0, 0, 0, 0, 0];
+        load.extend(raw);
+        let mut pair = Pair::fresh(random);
+        let what = || format!("long load {number}");
+        compare_run(random, &mut pair, &load, seen, report, &what);
     }
 }
 

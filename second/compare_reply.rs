@@ -715,7 +715,7 @@ fn compare_each(random: &mut Random, seen: &mut Seen, report: &mut Report) {
             reply.reply = LINE;
             compare_reply(random, &reply, "each text length", seen, report);
         }
-        for (_, first, second) in every(8, RULES.len(), RULES.len()) {
+        for (_, first, second) in every(16, RULES.len(), RULES.len()) {
             let mut reply = Owned::good(random, carrier, call);
             let broken = reply.break_rule(random, RULES[first].0);
             if broken && reply.break_rule(random, RULES[second].0) {
@@ -868,7 +868,7 @@ fn compare_second_reads(reply: &Owned, size: usize, name: &str, report: &mut Rep
 /// The finished reply that the library reads from raw bytes, all of them used.
 fn library_reply((call, out_length): (u8, u8), raw: &[u8]) -> Option<Vec<u8>> {
     let (mut bytes, mut own) = ([0; LENT], [0; LENT]);
-    let mut room = vec![0; NOTE * raw.len()];
+    let (mut room, mut data) = (vec![0; NOTE * raw.len()], vec![0; raw.len()]);
     let begun = unsafe { tube_begin(tube_link(), call, out_length) };
     if begun.kind == 1 && raw.is_empty() {
         return Some(Vec::new());
@@ -882,6 +882,8 @@ fn library_reply((call, out_length): (u8, u8), raw: &[u8]) -> Option<Vec<u8>> {
             own.as_mut_ptr(),
             room.as_mut_ptr(),
             room.len(),
+            data.as_mut_ptr(),
+            data.len(),
         )
     };
     let finished = ran.told.kind == REPLY && ran.used == raw.len() && ran.told.length <= LENT;
@@ -987,8 +989,9 @@ fn library_step(
 /// parallel side.
 fn compare_normal(random: &mut Random, report: &mut Report) {
     let Laden {
-        kind, plain, raw, ..
+        kind, plain, sent, ..
     } = Laden::new(random);
+    let raw = sent.raw;
     let mut normal = plain.clone();
     let carry = |byte: u8| byte & 0x80;
     match kind.0 {

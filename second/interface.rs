@@ -60,8 +60,8 @@ pub struct TubeFed {
 }
 
 /// A link: the bytes of the reply and of the open action so far; 0 or one more
-/// than the call that waits; the open action (0 none, 1 error, 2 event, 3
-/// address); the flags.
+/// than the call that waits; the open action (0 none, 1 error, 2 event, 3 address,
+/// 4 execute, 5 load, 6 save, 128 + n a control block of n bytes); the flags.
 #[repr(C)]
 #[derive(Clone, Copy, PartialEq, Debug)]
 pub struct TubeLink {
@@ -73,9 +73,14 @@ pub struct TubeLink {
     pub flags: u8,
 }
 
-// A link's flags: an escape was seen; it is stopped.
+// A link's flags are a sum: an escape was seen; it is stopped; this times the number
+// of its open transfers, 0 where none is open, 2n + 1 for a load inside those of
+// number n, 2n + 2 for a save.
 pub const LINK_ESCAPE: u8 = 1;
 pub const LINK_STOPPED: u8 = 2;
+pub const LINK_NESTED: u8 = 4;
+/// The most that the flags can be: four saves, stopped inside a pair.
+pub const LINK_FLAGS: u8 = 123;
 
 /// What a raw byte gives, by its kind.
 #[repr(C)]
@@ -90,12 +95,15 @@ pub struct TubeTold {
     pub fourth: u8,
 }
 
-// The kinds that the loop stops with; 1 to 4 are those of its notes.
+// The kinds that the loop stops with; 1 to 4 and 9 to 14 are those of its notes.
 pub const NEED_MORE: u32 = 0;
 pub const REPLY: u32 = 5;
 pub const ERROR: u32 = 6;
 pub const RESTART: u32 = 7;
 pub const REFUSED: u32 = 8;
+// The kinds whose answer differs from the note.
+pub const BLOCK: u32 = 9;
+pub const DATA: u32 = 13;
 
 /// Kind 0 waits, 1 complete, 2 refused.
 #[repr(C)]
@@ -112,6 +120,19 @@ pub struct TubeRan {
     pub told: TubeTold,
     pub used: usize,
     pub noted: usize,
+    pub stored: usize,
+}
+
+/// What a recorded reply gives; the kind is one that the loop stops with.
+#[repr(C)]
+#[derive(Clone, Copy, PartialEq, Debug)]
+pub struct TubeRecorded {
+    pub used: usize,
+    pub noted: usize,
+    pub stored: usize,
+    pub length: usize,
+    pub kind: u32,
+    pub number: u32,
 }
 
 #[repr(C)]
@@ -236,7 +257,20 @@ unsafe extern "C" {
         own: *mut u8,
         room: *mut u8,
         room_length: usize,
+        data: *mut u8,
+        data_length: usize,
     ) -> TubeRan;
+    pub fn tube_read_recorded(
+        call: u8,
+        out_length: u8,
+        raw: *const u8,
+        raw_length: usize,
+        room: *mut u8,
+        room_length: usize,
+        data: *mut u8,
+        data_length: usize,
+        out: *mut u8,
+    ) -> TubeRecorded;
     pub fn tube_write_reply(
         carrier: u8,
         call: u8,

@@ -1,7 +1,12 @@
 //! A second program for the replies and actions of the serial protocol: the link
-//! that reads them byte by byte, the loop over it, the replies of the parallel
-//! side byte by byte, the reply writer for both, and the fields of a finished
-//! reply. It is written from the rules and shares nothing with the proved library.
+//! that reads them byte by byte, with its block transfers, the loop over it, the
+//! replies of the parallel side byte by byte, the reply writer for both, and the
+//! fields of a finished reply. It is written from the rules and shares nothing with
+//! the proved library.
+
+/// The reader of a whole recorded reply, which does not use the link.
+#[path = "recorded.rs"]
+pub mod recorded;
 
 // Its escape layer, strings and refusals are used here, its requests in tests.
 #[allow(dead_code)]
@@ -24,6 +29,8 @@ pub const CALLS: u8 = 13;
 
 /// A call begun while another waits.
 const CALL_WAITS: u8 = 12;
+/// A transfer where as many as may be are open.
+const TOO_DEEP: u8 = 13;
 
 /// The bytes lent for a reply, and those lent for an action's own bytes: the
 /// longest are a line with its first byte and its end, and an error's number
@@ -47,11 +54,36 @@ pub const NO_ACTION: u8 = 0;
 pub const ERROR: u8 = 1;
 pub const EVENT: u8 = 2;
 pub const ADDRESS: u8 = 3;
+pub const EXECUTE: u8 = 4;
+pub const LOAD: u8 = 5;
+pub const SAVE: u8 = 6;
+/// The number of a control block is this and its length, 1 to 127.
+pub const IN_BLOCK: u8 = 128;
+pub const SHORTEST_BLOCK: u8 = IN_BLOCK + 1;
 
-/// The most own bytes of each action.
-const MOST_OWN: [usize; 4] = [0, LENT, 3, 4];
+/// The most own bytes of an action; 0 of a number that is none.
+#[inline]
+fn most_own(action: u8) -> usize {
+    match action {
+        ERROR => LENT,
+        EVENT => 3,
+        ADDRESS..=SAVE => 4,
+        SHORTEST_BLOCK.. => (action - IN_BLOCK) as usize,
+        _ => 0,
+    }
+}
 
 const TEXT_END: u8 = 0x00;
+
+/// A block transfer; the host sends the data of a load.
+#[derive(Clone, Copy, PartialEq, Debug)]
+pub enum Transfer {
+    Load,
+    Save,
+}
+
+/// How many transfers may be open.
+pub const TRANSFERS: usize = 4;
 
 #[derive(Clone, Copy, PartialEq, Debug)]
 pub struct Link {
@@ -64,6 +96,8 @@ pub struct Link {
     /// The open action, and how many of its own bytes have been taken.
     pub action: u8,
     pub held: usize,
+    /// The open transfers, the innermost first.
+    pub open: [Option<Transfer>; TRANSFERS],
     /// The last raw byte was the first of an escape pair.
     pub escape: bool,
     pub stopped: bool,
@@ -97,6 +131,16 @@ pub enum Told {
     },
     Restart,
     Refused(u8),
+    /// The control block is as many of the first own bytes.
+    Block(usize),
+    /// The address, high byte first.
+    Execute([u8; 4]),
+    /// A transfer that is open from here on, with its address.
+    Opened(Transfer, [u8; 4]),
+    /// A byte of the innermost open load.
+    Data(u8),
+    /// The transfer that its end has closed.
+    Closed(Transfer),
 }
 
 impl Link {
@@ -107,6 +151,7 @@ impl Link {
             got: 0,
             action: NO_ACTION,
             held: 0,
+            open: [None; TRANSFERS],
             escape: false,
             stopped: false,
         }
@@ -115,7 +160,7 @@ impl Link {
     /// Stopped, or a record beyond its limits.
     #[inline]
     pub fn stopped(&self) -> bool {
-        self.stopped || self.reply_beyond() || self.action_beyond()
+        self.stopped || self.reply_beyond() || self.action_beyond() || self.open_beyond()
     }
 
     #[inline]
@@ -131,9 +176,20 @@ impl Link {
     fn action_beyond(&self) -> bool {
         match self.action {
             NO_ACTION => self.held != 0,
-            ERROR..=ADDRESS => self.held >= MOST_OWN[self.action as usize],
-            _ => true,
+            action => self.held >= most_own(action),
         }
+    }
+
+    /// A transfer is being opened where no more may be open.
+    #[inline]
+    fn open_beyond(&self) -> bool {
+        matches!(self.action, LOAD | SAVE) && self.full()
+    }
+
+    /// As many transfers as may be are open.
+    #[inline]
+    fn full(&self) -> bool {
+        self.open[TRANSFERS - 1].is_some()
     }
 
     /// The most bytes of the reply that is waited for.
@@ -145,7 +201,7 @@ impl Link {
         }
     }
 
-    /// Begins a call. The open action and the escape stay.
+    /// Begins a call. The open action, the open transfers and the escape stay.
     pub fn begin(&mut self, call: u8, out_length: u8) -> Begun {
         if self.stopped() {
             return Begun::Refused(READER_STOPPED);
@@ -176,7 +232,7 @@ impl Link {
                 self.escape = true;
                 Told::More
             }
-            (Unit::Mark(mark), NO_ACTION) => self.open(mark),
+            (Unit::Mark(mark), NO_ACTION) => self.begin_action(mark),
             (Unit::Mark(_), _) => self.refuse(MARK_INSIDE),
             (Unit::Data(byte), NO_ACTION) => self.take(byte, reply),
             (Unit::Data(byte), _) => self.take_own(byte, own),
@@ -188,23 +244,49 @@ impl Link {
         Told::Refused(number)
     }
 
-    /// Opens the action of a mark; the Escape state has no bytes of its own.
-    fn open(&mut self, mark: u8) -> Told {
+    /// Begins the action of a mark; the Escape state and an end have no bytes of
+    /// their own.
+    fn begin_action(&mut self, mark: u8) -> Told {
         let (action, told) = match mark {
             0x00 => (ERROR, Told::More),
+            0x01..=0x7F => (IN_BLOCK + mark, Told::More),
             0x80..=0x8F => (NO_ACTION, Told::Escape(mark & 1 != 0)),
             0x90..=0x9F => (EVENT, Told::More),
+            0xA0..=0xAF => return self.refuse(NOT_CARRIED),
+            0xB0..=0xBF => return self.close(),
             0xC0..=0xCF => (ADDRESS, Told::More),
-            _ => return self.refuse(NOT_CARRIED),
+            0xD0..=0xDF => (EXECUTE, Told::More),
+            0xE0..=0xFF if self.full() => return self.refuse(TOO_DEEP),
+            0xE0..=0xEF => (LOAD, Told::More),
+            0xF0..=0xFF => (SAVE, Told::More),
         };
         self.action = action;
         self.escape = false;
         told
     }
 
+    /// Closes the innermost open transfer.
+    fn close(&mut self) -> Told {
+        let Some(innermost) = self.open[0] else {
+            return self.refuse(MARK_INSIDE);
+        };
+        self.open.copy_within(1.., 0);
+        self.open[TRANSFERS - 1] = None;
+        self.escape = false;
+        Told::Closed(innermost)
+    }
+
     /// Takes a data byte outside an action.
     #[inline]
     fn take(&mut self, byte: u8, reply: &mut [u8; LENT]) -> Told {
+        match self.open[0] {
+            Some(Transfer::Load) => {
+                self.escape = false;
+                return Told::Data(byte);
+            }
+            Some(Transfer::Save) => return self.refuse(BROKEN_RULE),
+            None => {}
+        }
         if self.wait == IDLE {
             self.escape = false;
             return Told::Character(byte);
@@ -265,26 +347,42 @@ impl Link {
             (ERROR, _) if byte == TEXT_END => Ok(true),
             (ERROR, held) if held > LONGEST_STRING => Err(LONG_STRING),
             (ERROR, _) => Ok(false),
-            (action, held) => Ok(held + 1 == MOST_OWN[action as usize]),
+            (action, held) => Ok(held + 1 == most_own(action)),
         }
     }
 
-    /// Ends an action whose bytes are all there. An error ends the call too.
+    /// Ends an action whose bytes are all there.
     fn end_action(&mut self, own: &[u8; LENT]) -> Told {
         let (action, held) = (self.action, self.held);
         self.action = NO_ACTION;
         self.held = 0;
+        let address = [own[0], own[1], own[2], own[3]];
         match action {
+            ERROR => self.end_all(own[0], held - 2),
             EVENT => Told::Event([own[0], own[1], own[2]]),
-            ADDRESS => Told::Address([own[0], own[1], own[2], own[3]]),
-            _ => {
-                self.end_call();
-                match (own[0], held - 2) {
-                    (0, 0) => Told::Restart,
-                    (number, length) => Told::Error { number, length },
-                }
-            }
+            ADDRESS => Told::Address(address),
+            EXECUTE => Told::Execute(address),
+            LOAD => self.open_transfer(Transfer::Load, address),
+            SAVE => self.open_transfer(Transfer::Save, address),
+            _ => Told::Block(held),
         }
+    }
+
+    /// An error or a restart ends the call and closes every transfer.
+    fn end_all(&mut self, number: u8, length: usize) -> Told {
+        self.end_call();
+        self.open = [None; TRANSFERS];
+        match (number, length) {
+            (0, 0) => Told::Restart,
+            _ => Told::Error { number, length },
+        }
+    }
+
+    /// Opens a transfer inside those that are open; there is a place for it.
+    fn open_transfer(&mut self, transfer: Transfer, address: [u8; 4]) -> Told {
+        self.open.copy_within(..TRANSFERS - 1, 1);
+        self.open[0] = Some(transfer);
+        Told::Opened(transfer, address)
     }
 }
 
@@ -293,17 +391,24 @@ impl Link {
 /// The bytes of a note.
 pub const NOTE: usize = 5;
 
+// The kinds of notes that count bytes of the lent data.
+const BLOCK_NOTE: u8 = 9;
+const DATA_NOTE: u8 = 13;
+
 /// Where the loop stopped: the last answer, how many raw bytes it has seen, the
-/// last one among them whatever its answer, and how many notes it has made.
+/// last one among them whatever its answer, how many notes it has made, and how many
+/// bytes of load data and control blocks it has stored.
 #[derive(Clone, Copy, PartialEq, Debug)]
 pub struct Ran {
     pub told: Told,
     pub used: usize,
     pub noted: usize,
+    pub stored: usize,
 }
 
 impl Told {
-    /// The note of a character or an action that the loop passes over.
+    /// The note of a character or an action that the loop passes over; of load data
+    /// it is that of one byte.
     #[inline]
     pub fn note(self) -> Option<[u8; NOTE]> {
         match self {
@@ -311,14 +416,85 @@ impl Told {
             Told::Escape(on) => Some([2, on as u8, 0, 0, 0]),
             Told::Event([y, x, a]) => Some([3, y, x, a, 0]),
             Told::Address([a, b, c, d]) => Some([4, a, b, c, d]),
+            Told::Block(length) => Some([BLOCK_NOTE, length as u8, 0, 0, 0]),
+            Told::Execute([a, b, c, d]) => Some([10, a, b, c, d]),
+            Told::Opened(Transfer::Load, [a, b, c, d]) => Some([11, a, b, c, d]),
+            Told::Opened(Transfer::Save, [a, b, c, d]) => Some([12, a, b, c, d]),
+            Told::Data(_) => Some([DATA_NOTE, 1, 0, 0, 0]),
+            Told::Closed(transfer) => Some([14, transfer as u8, 0, 0, 0]),
             _ => None,
+        }
+    }
+}
+
+/// The lent room and data, and how much of each is written.
+struct Written<'a> {
+    notes: &'a mut [[u8; NOTE]],
+    noted: usize,
+    data: &'a mut [u8],
+    stored: usize,
+    /// How many load bytes the last note counts; 0 where it is of another kind.
+    counted: u8,
+}
+
+impl Written<'_> {
+    /// Writes an answer that is passed over, which has this note.
+    #[inline]
+    fn write(&mut self, told: Told, note: [u8; NOTE], own: &[u8; LENT]) {
+        match told {
+            Told::Data(byte) => {
+                self.store(&[byte]);
+                self.count(note);
+                return;
+            }
+            Told::Block(length) => self.store(&own[..length]),
+            _ => {}
+        }
+        self.counted = 0;
+        self.note(note);
+    }
+
+    #[inline]
+    fn note(&mut self, note: [u8; NOTE]) {
+        self.notes[self.noted] = note;
+        self.noted += 1;
+    }
+
+    #[inline]
+    fn store(&mut self, bytes: &[u8]) {
+        let end = self.stored + bytes.len();
+        self.data[self.stored..end].copy_from_slice(bytes);
+        self.stored = end;
+    }
+
+    /// Counts a load byte in the last note, or in this one where the last is of
+    /// another kind or counts as many as a byte can.
+    #[inline]
+    fn count(&mut self, note: [u8; NOTE]) {
+        if matches!(self.counted, 0 | u8::MAX) {
+            self.counted = 1;
+            self.note(note);
+        } else {
+            self.counted += 1;
+            self.notes[self.noted - 1][1] = self.counted;
+        }
+    }
+
+    fn ran(&self, told: Told, used: usize) -> Ran {
+        Ran {
+            told,
+            used,
+            noted: self.noted,
+            stored: self.stored,
         }
     }
 }
 
 impl Link {
     /// Reads up to a finished reply, an error, a restart, a refusal or the end of
-    /// the raw bytes. The notes go into `room`, which must have one for each byte.
+    /// the raw bytes. The notes go into `room`, which must have one for each byte;
+    /// load data and control blocks go into `data`, which must have a byte for each
+    /// and for each own byte of the open action.
     #[inline]
     pub fn run(
         &mut self,
@@ -326,15 +502,18 @@ impl Link {
         reply: &mut [u8; LENT],
         own: &mut [u8; LENT],
         room: &mut [u8],
+        data: &mut [u8],
     ) -> Ran {
         let (notes, _) = room.as_chunks_mut::<NOTE>();
-        let mut noted = 0;
-        if notes.len() < raw.len() {
-            return Ran {
-                told: Told::Refused(SHORT_BUFFER),
-                used: 0,
-                noted,
-            };
+        let mut written = Written {
+            notes,
+            noted: 0,
+            data,
+            stored: 0,
+            counted: 0,
+        };
+        if written.notes.len() < raw.len() || written.data.len() < raw.len() + self.held {
+            return written.ran(Told::Refused(SHORT_BUFFER), 0);
         }
         for (at, &byte) in raw.iter().enumerate() {
             let told = self.step(byte, reply, own);
@@ -342,17 +521,11 @@ impl Link {
                 continue;
             }
             let Some(note) = told.note() else {
-                let used = at + 1;
-                return Ran { told, used, noted };
+                return written.ran(told, at + 1);
             };
-            notes[noted] = note;
-            noted += 1;
+            written.write(told, note, own);
         }
-        Ran {
-            told: Told::More,
-            used: raw.len(),
-            noted,
-        }
+        written.ran(Told::More, raw.len())
     }
 }
 
@@ -654,6 +827,7 @@ impl Reply<'_> {
 
 #[cfg(test)]
 mod tests {
+    use super::Transfer::{Load, Save};
     use super::serial::{Read, Reader, asked};
     use super::*;
 
@@ -694,9 +868,10 @@ mod tests {
                     assert_eq!(self.link, Link { stopped, ..link });
                 }
                 _ if !data => {}
-                (_, NO_ACTION, IDLE) => {}
-                (_, NO_ACTION, _) => reply[link.got] = raw,
-                _ => own[link.held] = raw,
+                (_, 1.., _) => own[link.held] = raw,
+                (_, _, IDLE) => {}
+                _ if link.open[0].is_some() => {}
+                _ => reply[link.got] = raw,
             }
             assert!(self.reply == reply && self.own == own);
             told
@@ -717,6 +892,54 @@ mod tests {
         fn idle(&self) -> bool {
             self.link == Link::new()
         }
+
+        /// Opens these transfers, each inside the one before.
+        fn nest(&mut self, transfers: &[Transfer]) {
+            for &transfer in transfers {
+                let mark = if transfer == Load { 0xE0 } else { 0xF0 };
+                let opened = Told::Opened(transfer, [1, 2, 3, 4]);
+                assert_eq!(self.last(&[0x9B, mark, 1, 2, 3, 4]), opened);
+            }
+        }
+
+        /// Runs over raw bytes with room that is just enough.
+        fn run(&mut self, raw: &[u8]) -> (Ran, Vec<[u8; NOTE]>, Vec<u8>) {
+            let mut room = vec![0xDD; NOTE * raw.len()];
+            let mut data = vec![0xDD; raw.len() + self.link.held];
+            let Bench { link, reply, own } = self;
+            let ran = link.run(raw, reply, own, &mut room, &mut data);
+            let (notes, beyond) = room.split_at(NOTE * ran.noted);
+            let untouched = [beyond, &data[ran.stored..]].concat();
+            assert!(untouched.iter().all(|&byte| byte == 0xDD));
+            let notes = notes.as_chunks::<NOTE>().0.to_vec();
+            data.truncate(ran.stored);
+            (ran, notes, data)
+        }
+    }
+
+    /// Every nest of open transfers, the innermost last.
+    fn nests() -> Vec<Vec<Transfer>> {
+        let mut nests = vec![Vec::new()];
+        for at in 0..15 {
+            for transfer in [Load, Save] {
+                let nest = [&nests[at][..], &[transfer]].concat();
+                nests.push(nest);
+            }
+        }
+        nests
+    }
+
+    /// A link that is idle, and one that waits for a reply with a byte taken.
+    fn idle_and_waiting() -> [Bench; 2] {
+        let mut waiting = Bench::waiting(OSWORD, 200);
+        assert_eq!(waiting.step(0x55), MORE);
+        [Bench::new(), waiting]
+    }
+
+    /// Each of the first with each of the second.
+    fn every_pair<A: Copy, B: Copy>(first: &[A], second: &[B]) -> Vec<(A, B)> {
+        let with = |&one: &A| second.iter().map(move |&other| (one, other));
+        first.iter().flat_map(with).collect()
     }
 
     fn error(number: u8, length: usize) -> Told {
@@ -887,13 +1110,18 @@ mod tests {
                 let before = bench.link;
                 let (told, action) = match mark {
                     0x00 => (MORE, ERROR),
+                    0x01..=0x7F => (MORE, 128 + mark),
                     0x80..=0x8F => (Told::Escape(mark % 2 == 1), NO_ACTION),
                     0x90..=0x9F => (MORE, EVENT),
+                    0xA0..=0xAF => (Told::Refused(4), NO_ACTION),
+                    0xB0..=0xBF => (Told::Refused(5), NO_ACTION),
                     0xC0..=0xCF => (MORE, ADDRESS),
-                    _ => (Told::Refused(4), NO_ACTION),
+                    0xD0..=0xDF => (MORE, EXECUTE),
+                    0xE0..=0xEF => (MORE, LOAD),
+                    0xF0..=0xFF => (MORE, SAVE),
                 };
                 assert_eq!(bench.last(&[0x9B, mark]), told);
-                let stopped = told == Told::Refused(4);
+                let stopped = matches!(told, Told::Refused(_));
                 let after = Link {
                     action,
                     escape: stopped,
@@ -907,16 +1135,22 @@ mod tests {
 
     #[test]
     fn a_mark_inside_an_action() {
-        let actions: [&[u8]; 5] = [
+        let actions: [&[u8]; 10] = [
             &[0x9B, 0x00],
             &[0x9B, 0x00, 0x05, 0x41],
             &[0x9B, 0x90],
             &[0x9B, 0x9F, 1, 2],
             &[0x9B, 0xC0, 1, 2, 3],
+            &[0x9B, 0xD0, 1, 2, 3],
+            &[0x9B, 0xEF],
+            &[0x9B, 0xF1, 1, 2],
+            &[0x9B, 0x01],
+            &[0x9B, 0x7F, 1, 0x9B, 0x9B],
         ];
-        for action in actions {
+        for (action, nest) in every_pair(&actions, &[&[][..], &[Load], &[Save], &[Save; 3]]) {
             for mark in (0..=255).filter(|&mark| mark != 0x9B) {
                 let mut bench = Bench::waiting(OSBGET, 0);
+                bench.nest(nest);
                 assert_eq!(bench.last(action), MORE);
                 assert_eq!(bench.last(&[0x9B, mark]), Told::Refused(5));
                 assert_eq!(bench.step(mark), Told::Refused(7));
@@ -978,6 +1212,260 @@ mod tests {
             assert_eq!(bench.last(stream), told);
             assert!(bench.idle());
         }
+    }
+
+    // ---- Blocks and transfers ----
+
+    #[test]
+    fn blocks_of_every_length() {
+        let lengths: Vec<u8> = (1..=127).collect();
+        let nests = [&[][..], &[Load], &[Save], &[Save, Load, Load, Save]];
+        for (length, nest) in every_pair(&lengths, &nests) {
+            for (mut bench, byte) in idle_and_waiting().into_iter().zip([0x00, 0x9B]) {
+                bench.nest(nest);
+                let before = bench.link;
+                let stream: &[u8] = if byte == 0x9B { &[0x9B; 2] } else { &[byte] };
+                assert_eq!(bench.last(&[0x9B, length]), MORE);
+                for _ in 1..length {
+                    assert_eq!(bench.last(stream), MORE);
+                }
+                assert_eq!(bench.last(stream), Told::Block(length as usize));
+                assert_eq!(bench.own[..length as usize], vec![byte; length as usize]);
+                assert_eq!(bench.link, before);
+            }
+        }
+    }
+
+    #[test]
+    fn addresses_come_high_byte_first_and_low_bits_are_ignored() {
+        for low in 0..16 {
+            for (mut bench, escape) in idle_and_waiting()
+                .into_iter()
+                .zip([&[0x41][..], &[0x9B; 2]])
+            {
+                let before = bench.link;
+                let address = [0x12, 0x00, escape[0], 0x78];
+                let own = [&[0x12, 0x00], escape, &[0x78]].concat();
+                for (high, told) in [
+                    (0xD0, Told::Execute(address)),
+                    (0xE0, Told::Opened(Load, address)),
+                    (0xF0, Told::Opened(Save, address)),
+                ] {
+                    let raw = [&[0x9B, high + low], &own[..]].concat();
+                    assert_eq!(bench.last(&raw), told);
+                }
+                assert_eq!(bench.link.open, [Some(Save), Some(Load), None, None]);
+                assert_eq!(bench.last(&[0x9B, 0xB0 + low]), Told::Closed(Save));
+                assert_eq!(bench.last(&[0x9B, 0xB0 + low]), Told::Closed(Load));
+                assert_eq!(bench.link, before);
+            }
+        }
+    }
+
+    #[test]
+    fn load_data_runs_until_its_end() {
+        for mut bench in idle_and_waiting() {
+            let before = bench.link;
+            bench.nest(&[Load]);
+            for byte in (0..=255).filter(|&byte| byte != 0x9B) {
+                assert_eq!(bench.step(byte), Told::Data(byte));
+            }
+            assert_eq!(bench.last(&[0x9B, 0x9B]), Told::Data(0x9B));
+            assert_eq!(bench.last(&[0x9B, 0xB0]), Told::Closed(Load));
+            assert_eq!(bench.link, before);
+        }
+        // A transfer without data.
+        let mut bench = Bench::waiting(OSCLI, 0);
+        bench.nest(&[Load]);
+        assert_eq!(bench.last(&[0x9B, 0xBF]), Told::Closed(Load));
+        assert_eq!(bench.step(0x80), Told::Reply(1));
+    }
+
+    #[test]
+    fn data_and_ends_go_to_the_innermost_transfer() {
+        for nest in nests() {
+            for mut bench in idle_and_waiting() {
+                let before = bench.link;
+                bench.nest(&nest);
+                for &innermost in nest.iter().rev() {
+                    if innermost == Load {
+                        assert_eq!(bench.step(0x41), Told::Data(0x41));
+                        assert_eq!(bench.last(&[0x9B, 0x9B]), Told::Data(0x9B));
+                    }
+                    assert_eq!(bench.last(&[0x9B, 0xB5]), Told::Closed(innermost));
+                }
+                assert_eq!(bench.link, before);
+            }
+        }
+    }
+
+    #[test]
+    fn data_in_a_save_is_refused() {
+        for nest in nests().iter().filter(|nest| nest.last() == Some(&Save)) {
+            for stream in [&[0x00][..], &[0x41], &[0x9B; 2]] {
+                for mut bench in idle_and_waiting() {
+                    bench.nest(nest);
+                    assert_eq!(bench.last(stream), Told::Refused(9));
+                    assert_eq!(bench.step(0x9B), Told::Refused(7));
+                }
+            }
+        }
+    }
+
+    #[test]
+    fn a_transfer_holds_actions() {
+        let actions: [(&[u8], Told); 6] = [
+            (&[0x9B, 0x81], Told::Escape(true)),
+            (&[0x9B, 0x90, 1, 2, 3], Told::Event([1, 2, 3])),
+            (&[0x9B, 0xC5, 1, 2, 3, 4], Told::Address([1, 2, 3, 4])),
+            (&[0x9B, 0xD5, 1, 2, 3, 4], Told::Execute([1, 2, 3, 4])),
+            (&[0x9B, 0x01, 7], Told::Block(1)),
+            (&[0x9B, 0x02, 0x9B, 0x9B, 7], Told::Block(2)),
+        ];
+        for (action, told) in actions {
+            for nest in nests() {
+                for mut bench in idle_and_waiting() {
+                    bench.nest(&nest);
+                    let before = bench.link;
+                    assert_eq!(bench.last(action), told);
+                    assert_eq!(bench.link, before);
+                }
+            }
+        }
+    }
+
+    #[test]
+    fn a_fifth_transfer_is_refused_at_its_mark() {
+        for nest in nests() {
+            let told = match nest.len() {
+                4 => Told::Refused(13),
+                _ => MORE,
+            };
+            for mark in 0xE0..=0xFF {
+                for mut bench in idle_and_waiting() {
+                    bench.nest(&nest);
+                    assert_eq!(bench.last(&[0x9B, mark]), told);
+                }
+            }
+        }
+    }
+
+    #[test]
+    fn what_a_full_nest_still_refuses_first() {
+        let full = || {
+            let mut bench = Bench::waiting(OSCLI, 0);
+            bench.nest(&[Load, Save, Save, Load]);
+            bench
+        };
+        for mark in 0xA0..=0xAF {
+            assert_eq!(full().last(&[0x9B, mark]), Told::Refused(4));
+        }
+        for action in [0x00, 0x01, 0x90, 0xC0, 0xD0] {
+            for mark in [0xE0, 0xF0] {
+                let mut bench = full();
+                assert_eq!(bench.last(&[0x9B, action]), MORE);
+                assert_eq!(bench.last(&[0x9B, mark]), Told::Refused(5));
+            }
+        }
+        // A place is free again behind an end.
+        let mut bench = full();
+        assert_eq!(bench.last(&[0x9B, 0xB0]), Told::Closed(Load));
+        bench.nest(&[Save]);
+        assert_eq!(bench.last(&[0x9B, 0xE0]), Told::Refused(13));
+    }
+
+    #[test]
+    fn an_end_with_none_open_is_refused() {
+        for mark in 0xB0..=0xBF {
+            for mut bench in idle_and_waiting() {
+                assert_eq!(bench.last(&[0x9B, mark]), Told::Refused(5));
+            }
+            for mut bench in idle_and_waiting() {
+                bench.nest(&[Save]);
+                assert_eq!(bench.last(&[0x9B, mark]), Told::Closed(Save));
+                assert_eq!(bench.last(&[0x9B, mark]), Told::Refused(5));
+            }
+        }
+        // While the address is read the transfer is not open.
+        let mut bench = Bench::new();
+        assert_eq!(bench.last(&[0x9B, 0xE0, 1, 2, 3]), MORE);
+        assert_eq!(bench.link.open, [None; 4]);
+        assert_eq!(bench.last(&[0x9B, 0xB0]), Told::Refused(5));
+    }
+
+    #[test]
+    fn errors_and_restarts_close_every_transfer() {
+        let cases: [(&[u8], Told); 3] = [
+            (&[0x9B, 0, 0, 0], Told::Restart),
+            (&[0x9B, 0, 7, 0], error(7, 0)),
+            (&[0x9B, 0, 0, 0x9B, 0x9B, 0], error(0, 1)),
+        ];
+        for (stream, told) in cases {
+            for nest in nests() {
+                for mut bench in idle_and_waiting() {
+                    bench.nest(&nest);
+                    assert_eq!(bench.last(stream), told);
+                    assert!(bench.idle());
+                    assert_eq!(bench.step(0x41), Told::Character(0x41));
+                }
+            }
+        }
+    }
+
+    #[test]
+    fn an_idle_link_with_a_load_open_has_no_characters() {
+        let mut bench = Bench::new();
+        assert_eq!(bench.step(0x41), Told::Character(0x41));
+        bench.nest(&[Load]);
+        assert_eq!(bench.step(0x41), Told::Data(0x41));
+        assert_eq!(bench.last(&[0x9B, 0xB0]), Told::Closed(Load));
+        assert_eq!(bench.step(0x41), Told::Character(0x41));
+        bench.nest(&[Save]);
+        assert_eq!(bench.step(0x41), Told::Refused(9));
+    }
+
+    #[test]
+    fn transfers_leave_the_reply_at_its_place() {
+        let mut bench = Bench::waiting(OSARGS, 0);
+        for at in 0..5 {
+            bench.nest(&[Load, Save, Load]);
+            assert_eq!(bench.step(0x99), Told::Data(0x99));
+            assert_eq!(bench.last(&[0x9B, 0xB0]), Told::Closed(Load));
+            assert_eq!(bench.last(&[0x9B, 0xB0]), Told::Closed(Save));
+            assert_eq!(bench.step(0x98), Told::Data(0x98));
+            assert_eq!(bench.last(&[0x9B, 0xB0]), Told::Closed(Load));
+            let end = if at == 4 { Told::Reply(5) } else { MORE };
+            assert_eq!(bench.step(0x10 + at), end);
+        }
+        assert_eq!(bench.reply[..5], [0x10, 0x11, 0x12, 0x13, 0x14]);
+    }
+
+    #[test]
+    fn begin_inside_a_transfer() {
+        let mut bench = Bench::new();
+        bench.nest(&[Load]);
+        assert_eq!(bench.step(0x41), Told::Data(0x41));
+        assert_eq!(bench.step(0x9B), MORE);
+        let before = bench.link;
+        assert_eq!(bench.link.begin(OSWORD, 0), Begun::Complete);
+        assert_eq!(bench.link, before);
+        assert_eq!(bench.link.begin(OSBGET, 0), Begun::Waits);
+        assert_eq!(bench.step(0x9B), Told::Data(0x9B));
+        assert_eq!(bench.step(0x42), Told::Data(0x42));
+        assert_eq!(bench.last(&[0x9B, 0xB0]), Told::Closed(Load));
+        assert_eq!(bench.last(&[0x43, 0x44]), Told::Reply(2));
+        assert_eq!(bench.reply[..2], [0x43, 0x44]);
+
+        // Inside the address, and inside a block.
+        let mut bench = Bench::new();
+        assert_eq!(bench.last(&[0x9B, 0xE0, 1, 2]), MORE);
+        assert_eq!(bench.link.begin(OSCLI, 0), Begun::Waits);
+        assert_eq!(bench.last(&[3, 4]), Told::Opened(Load, [1, 2, 3, 4]));
+        let mut bench = Bench::new();
+        assert_eq!(bench.last(&[0x9B, 0x02, 1]), MORE);
+        assert_eq!(bench.link.begin(OSCLI, 0), Begun::Waits);
+        assert_eq!(bench.step(2), Told::Block(2));
+        assert_eq!(bench.step(3), Told::Reply(1));
     }
 
     // ---- Calls begun ----
@@ -1062,7 +1550,9 @@ mod tests {
         assert!(record(0, 0, 1, 0, 0).stopped());
         assert!(record(0, 0, 0, 0, 1).stopped());
         assert!(record(14, 0, 0, 0, 0).stopped());
-        assert!(record(0, 0, 0, 4, 0).stopped());
+        for action in 7..=128 {
+            assert!(record(0, 0, 0, action, 0).stopped());
+        }
         for call in 0..CALLS {
             let most = match call {
                 OSWORD => 255,
@@ -1072,10 +1562,27 @@ mod tests {
             assert!(record(1 + call, 255, most, 0, 0).stopped());
         }
         assert!(record(WAIT_BLOCK, 0, 0, 0, 0).stopped());
-        for (action, most) in [(ERROR, 257), (EVENT, 3), (ADDRESS, 4)] {
+        let actions = [
+            (ERROR, 257),
+            (EVENT, 3),
+            (ADDRESS, 4),
+            (EXECUTE, 4),
+            (LOAD, 4),
+            (SAVE, 4),
+            (129, 1),
+            (130, 2),
+            (255, 127),
+        ];
+        for (action, most) in actions {
             assert!(!record(0, 0, 0, action, most - 1).stopped());
             assert!(record(0, 0, 0, action, most).stopped());
             assert!(record(0, 0, 0, action, usize::MAX).stopped());
+        }
+        for (nest, action) in every_pair(&[3, 4], &[NO_ACTION, ERROR, EXECUTE, LOAD, SAVE, 129]) {
+            let mut link = record(OSBGET, 0, 0, action, 0);
+            link.open[..nest].fill(Some(Save));
+            let fifth = nest == 4 && matches!(action, LOAD | SAVE);
+            assert_eq!(link.stopped(), fifth);
         }
     }
 
@@ -1095,51 +1602,110 @@ mod tests {
             [3, 1, 2, 3, 0],
             [4, 4, 5, 6, 7],
         ];
-        let Bench {
-            mut link,
-            mut reply,
-            mut own,
-        } = Bench::new();
-        let mut room = [0xDD; 5 * 24 + 3];
-        let Ran { told, used, noted } = link.run(&stream, &mut reply, &mut own, &mut room);
-        assert_eq!((told, used, noted), (error(8, 1), 23, 6));
-        assert_eq!(room[..30], *notes.as_flattened());
-        assert!(room[30..].iter().all(|&byte| byte == 0xDD));
+        let mut bench = Bench::new();
+        let (ran, found, data) = bench.run(&stream);
+        assert_eq!((ran.told, ran.used, data.len()), (error(8, 1), 23, 0));
+        assert_eq!(found, notes);
 
-        let mut room = [0xDD; 5 + 4];
-        let Ran { told, used, noted } = link.run(&stream[23..], &mut reply, &mut own, &mut room);
-        assert_eq!((told, used, noted), (MORE, 1, 1));
-        assert_eq!(room, [1, 0x43, 0, 0, 0, 0xDD, 0xDD, 0xDD, 0xDD]);
+        let (ran, found, _) = bench.run(&stream[23..]);
+        assert_eq!((ran.told, ran.used), (MORE, 1));
+        assert_eq!(found, [[1, 0x43, 0, 0, 0]]);
 
-        let mut room = [0xDD; 5 * 300];
-        let Ran { told, used, noted } = link.run(&[0x41; 300], &mut reply, &mut own, &mut room);
-        assert_eq!((told, used, noted), (MORE, 300, 300));
-        assert!(room.chunks(5).all(|note| note == [1, 0x41, 0, 0, 0]));
-        let mut room = [0xDD; 5 * 2];
-        link.run(&[0x9B, 0x9B], &mut reply, &mut own, &mut room);
-        assert!(room[5..].iter().all(|&byte| byte == 0xDD));
+        let (ran, found, _) = bench.run(&[0x41; 300]);
+        assert_eq!((ran.told, ran.used), (MORE, 300));
+        assert_eq!(found, [[1, 0x41, 0, 0, 0]; 300]);
+        let (_, found, _) = bench.run(&[0x9B, 0x9B]);
+        assert_eq!(found, [[1, 0x9B, 0, 0, 0]]);
+    }
+
+    #[test]
+    fn the_loop_stores_load_data_and_blocks() {
+        let stream = [
+            &[0x9B, 0xE0, 1, 2, 3, 4, 0x50, 0x9B, 0x9B, 0x51][..],
+            &[0x9B, 0x02, 0x60, 0x9B, 0x9B, 0x52, 0x9B, 0x80, 0x53],
+            &[0x9B, 0xFF, 5, 6, 7, 8, 0x9B, 0xB7, 0x54, 0x9B, 0xB0],
+            &[0x9B, 0xDA, 9, 10, 11, 12, 0x41, 0x42],
+        ];
+        let notes = [
+            [11, 1, 2, 3, 4],
+            [13, 3, 0, 0, 0],
+            [9, 2, 0, 0, 0],
+            [13, 1, 0, 0, 0],
+            [2, 0, 0, 0, 0],
+            [13, 1, 0, 0, 0],
+            [12, 5, 6, 7, 8],
+            [14, 1, 0, 0, 0],
+            [13, 1, 0, 0, 0],
+            [14, 0, 0, 0, 0],
+            [10, 9, 10, 11, 12],
+        ];
+        let mut bench = Bench::waiting(OSBGET, 0);
+        let (ran, found, data) = bench.run(&stream.concat());
+        assert_eq!(ran.told, Told::Reply(2));
+        assert_eq!(found, notes);
+        assert_eq!(data, [0x50, 0x9B, 0x51, 0x60, 0x9B, 0x52, 0x53, 0x54]);
+        assert_eq!(bench.reply[..2], [0x41, 0x42]);
+    }
+
+    #[test]
+    fn the_256th_load_byte_begins_a_note() {
+        for length in 1..=600 {
+            let mut bench = Bench::new();
+            bench.nest(&[Load]);
+            let (ran, notes, data) = bench.run(&vec![0x41; length]);
+            assert_eq!(ran.told, MORE);
+            assert_eq!(data, vec![0x41; length]);
+            let (last, full) = notes.split_last().unwrap();
+            assert!(full.iter().all(|&note| note == [13, 255, 0, 0, 0]));
+            let counted = 255 * full.len() + last[1] as usize;
+            assert_eq!((last[0], counted), (13, length));
+            assert_ne!(last[1], 0);
+        }
+    }
+
+    #[test]
+    fn a_block_in_two_slices_is_stored_whole() {
+        let stream = [&[0x9B, 0x7F][..], &[0x9B; 254]].concat();
+        for cut in 0..=stream.len() {
+            let mut bench = Bench::waiting(OSCLI, 0);
+            let (first, notes, data) = bench.run(&stream[..cut]);
+            assert_eq!((first.told, first.used), (MORE, cut));
+            assert_eq!(notes.len(), (cut == stream.len()) as usize);
+            let (second, more, rest) = bench.run(&stream[cut..]);
+            assert_eq!(second.told, MORE);
+            assert_eq!([notes, more].concat(), [[9, 127, 0, 0, 0]]);
+            assert_eq!([data, rest].concat(), [0x9B; 127]);
+        }
     }
 
     #[test]
     fn the_loop_tests_its_room_first() {
         let mut bench = Bench::waiting(OSARGS, 0);
+        assert_eq!(bench.last(&[0x9B, 0x05, 1, 2, 3]), MORE);
         let (before, reply, own) = (bench.link, bench.reply, bench.own);
-        for length in 0..30 {
+        for (length, data_length) in (0..30).map(|at| (at, 9)).chain((0..9).map(|at| (30, at))) {
             let mut room = vec![0xDD; length];
+            let mut data = vec![0xDD; data_length];
             let raw = [1, 0x9B, 0x00, 0, 0, 0];
-            let ran = bench
-                .link
-                .run(&raw, &mut bench.reply, &mut bench.own, &mut room);
+            let Bench { link, reply, own } = &mut bench;
+            let ran = link.run(&raw, reply, own, &mut room, &mut data);
             let refused = Ran {
                 told: Told::Refused(8),
                 used: 0,
                 noted: 0,
+                stored: 0,
             };
             assert_eq!(ran, refused);
             assert_eq!(bench.link, before);
-            assert!(bench.reply == reply && bench.own == own);
-            assert!(room.iter().all(|&byte| byte == 0xDD));
+            assert!(room.iter().chain(&data).all(|&byte| byte == 0xDD));
         }
+        assert!(bench.reply == reply && bench.own == own);
+        // No raw bytes still need the data for those of the open action.
+        let Bench { link, reply, own } = &mut bench;
+        let ran = link.run(&[], reply, own, &mut [], &mut [0; 2]);
+        assert_eq!(ran.told, Told::Refused(8));
+        let ran = link.run(&[], reply, own, &mut [], &mut [0; 3]);
+        assert_eq!(ran.told, MORE);
     }
 
     #[test]
@@ -1148,42 +1714,73 @@ mod tests {
         bench.link.stopped = true;
         let before = bench.link;
         for length in 0..3 {
-            let mut room = [0; 15];
             let raw = &[0x41; 2][..length.min(2)];
-            let ran = bench
-                .link
-                .run(raw, &mut bench.reply, &mut bench.own, &mut room);
+            let (ran, _, _) = bench.run(raw);
             let (told, used) = match length {
                 0 => (MORE, 0),
                 _ => (Told::Refused(7), 1),
             };
-            let noted = 0;
-            assert_eq!(ran, Ran { told, used, noted });
+            let (noted, stored) = (0, 0);
+            let expected = Ran {
+                told,
+                used,
+                noted,
+                stored,
+            };
+            assert_eq!(ran, expected);
             assert_eq!(bench.link, before);
         }
+    }
+
+    /// What notes and data tell, load bytes one by one: their notes count those of
+    /// one slice.
+    fn told_by(notes: &[[u8; NOTE]], data: &[u8]) -> Vec<Vec<u8>> {
+        let (mut told, mut rest) = (Vec::new(), data);
+        for note in notes {
+            let stored = if matches!(note[0], 9 | 13) {
+                note[1]
+            } else {
+                0
+            };
+            let (bytes, behind) = rest.split_at(stored as usize);
+            rest = behind;
+            match note[0] {
+                13 => told.extend(bytes.iter().map(|&byte| vec![13, byte])),
+                _ => told.push([&note[..], bytes].concat()),
+            }
+        }
+        assert!(rest.is_empty());
+        told
     }
 
     #[test]
     fn the_loop_gives_what_the_steps_give() {
         let stream = [
-            0x9B, 0x90, 1, 2, 3, 0x80, 0x9B, 0x81, 0x41, 0x42, 0x9B, 0x9B, 0x9B, 0x00, 0, 0, 0x9B,
-            0x33, 0x44,
+            0x9B, 0x90, 1, 2, 3, 0x80, 0x9B, 0x81, 0x9B, 0xE0, 1, 2, 3, 4, 5, 0x9B, 0x9B, 6, 0x9B,
+            0x03, 7, 8, 9, 10, 0x9B, 0xB0, 0x41, 0x42, 0x9B, 0x9B, 0x9B, 0x00, 0, 0, 0x9B, 0xA3,
+            0x44,
         ];
-        // What is noted, and where the loop stops.
-        let passed_over = |told: Told| told.note().ok_or(told);
         for at in 0..2 * stream.len() {
             let (call, cut) = ([OSBGET, OSCLI][at % 2], at / 2);
             let (mut whole, mut cut_up) = (Bench::waiting(call, 0), Bench::waiting(call, 0));
-            let mut answers = whole.steps(&stream);
-            answers.retain(|&told| told != MORE);
+            let mut expected = Vec::new();
+            for &byte in &stream {
+                let told = whole.step(byte);
+                match (told, told.note()) {
+                    (Told::More, _) => {}
+                    (Told::Data(byte), _) => expected.push(Ok(vec![13, byte])),
+                    (Told::Block(length), Some(note)) => {
+                        expected.push(Ok([&note[..], &whole.own[..length]].concat()));
+                    }
+                    (_, Some(note)) => expected.push(Ok(note.to_vec())),
+                    _ => expected.push(Err(told)),
+                }
+            }
             let mut found = Vec::new();
             for mut piece in [&stream[..cut], &stream[cut..]] {
                 while !piece.is_empty() {
-                    let mut room = [0; 5 * 19];
-                    let Bench { link, reply, own } = &mut cut_up;
-                    let ran = link.run(piece, reply, own, &mut room);
-                    let notes = &room.as_chunks::<NOTE>().0[..ran.noted];
-                    found.extend(notes.iter().map(|&note| Ok(note)));
+                    let (ran, notes, data) = cut_up.run(piece);
+                    found.extend(told_by(&notes, &data).into_iter().map(Ok));
                     if ran.told != MORE {
                         found.push(Err(ran.told));
                     }
@@ -1191,8 +1788,6 @@ mod tests {
                     piece = &piece[ran.used..];
                 }
             }
-            let expected: Vec<Result<[u8; NOTE], Told>> =
-                answers.into_iter().map(passed_over).collect();
             assert_eq!(found, expected);
             assert_eq!(cut_up.link, whole.link);
             assert!(cut_up.reply == whole.reply && cut_up.own == whole.own);

@@ -34,8 +34,9 @@ static uint8_t byte(void) {
 
 /* A byte at which rules change, or any. */
 static uint8_t edge(void) {
-    static const uint8_t edges[16] = {0x9B, 0x9B, 0x9B, 0x9B, 0x00, 0x00, 0x0D, 0x0D, 0x7F, 0x80, 0xFF, 0x02, 0x08, 0x14, 0x90, 0xC0};
-    return below(2) ? edges[below(16)] : byte();
+    static const uint8_t edges[24] = {0x9B, 0x9B, 0x9B, 0x9B, 0x9B, 0x9B, 0x00, 0x00, 0x0D, 0x0D, 0x7F, 0x80,
+                                      0xFF, 0x01, 0x02, 0x08, 0x14, 0x90, 0xA0, 0xB0, 0xC0, 0xD0, 0xE0, 0xF0};
+    return below(2) ? edges[below(24)] : byte();
 }
 
 /* A number below `limit` in most cases, else around it or any. */
@@ -74,14 +75,14 @@ static size_t length_of(void) {
 /* ---- Properties ---- */
 
 enum {
-    ACCESS, NEW, RESET, LINES, PLAY, TEXT, READER, READ, FEED, WRITE_REQUEST, KIND_OF, READ_REQUEST, FILE_NAME, LINK, BEGIN, LINK_STEP, RUN, WRITE_REPLY,
-    REPLY_STEP, READ_REPLY, EXPORTS
+    ACCESS, NEW, RESET, LINES, PLAY, TEXT, READER, READ, FEED, WRITE_REQUEST, KIND_OF, READ_REQUEST, FILE_NAME, LINK, BEGIN, LINK_STEP, RUN, READ_RECORDED,
+    WRITE_REPLY, REPLY_STEP, READ_REPLY, EXPORTS
 };
 
 static const char *const exports[EXPORTS] = {
     "tube_access", "tube_new", "tube_reset", "tube_lines", "tube_play", "tube_text", "tube_reader", "tube_read", "tube_feed", "tube_write_request",
-    "tube_kind_of", "tube_read_request", "tube_file_name", "tube_link", "tube_begin", "tube_link_step", "tube_run", "tube_write_reply", "tube_reply_step",
-    "tube_read_reply"};
+    "tube_kind_of", "tube_read_request", "tube_file_name", "tube_link", "tube_begin", "tube_link_step", "tube_run", "tube_read_recorded",
+    "tube_write_reply", "tube_reply_step", "tube_read_reply"};
 
 enum { INSIDE, STAYS, SOUND, KINDS };
 
@@ -101,7 +102,8 @@ static struct {
 #define ALL_FORMS (((1ul << (TUBE_REPLY_NONE + 1)) - 1) << 16)
 #define READER_KINDS (BIT(16 + TUBE_NEED_MORE) | BIT(16 + TUBE_CHARACTER) | BIT(16 + TUBE_REQUEST) | BIT(16 + TUBE_REFUSED))
 #define READER_REFUSALS (BIT(TUBE_UNKNOWN_CODE) | BIT(TUBE_MARK_INSIDE) | BIT(TUBE_STRING_LONG) | BIT(TUBE_STOPPED) | BIT(TUBE_BAD_FIELD))
-#define LINK_REFUSALS (BIT(TUBE_UNKNOWN_CODE) | BIT(TUBE_MARK_INSIDE) | BIT(TUBE_STRING_LONG) | BIT(TUBE_STOPPED))
+#define LINK_REFUSALS (BIT(TUBE_UNKNOWN_CODE) | BIT(TUBE_MARK_INSIDE) | BIT(TUBE_STRING_LONG) | BIT(TUBE_BAD_FIELD) | BIT(TUBE_TOO_DEEP))
+#define ENDS (BIT(16 + TUBE_TOLD_MORE) | BIT(16 + TUBE_TOLD_REPLY) | BIT(16 + TUBE_TOLD_ERROR) | BIT(16 + TUBE_TOLD_RESTART) | BIT(16 + TUBE_TOLD_REFUSED))
 
 static const unsigned long has[EXPORTS] = {
     [ACCESS] = BIT(TUBE_DONE) | BIT(TUBE_MISSING) | BIT(TUBE_NO_ROOM) | BIT(TUBE_EMPTY),
@@ -113,8 +115,9 @@ static const unsigned long has[EXPORTS] = {
     [READ_REQUEST] = ALL_CALLS,
     [FILE_NAME] = BIT(TUBE_DONE) | BIT(TUBE_STRING_LONG) | BIT(TUBE_BAD_FIELD),
     [BEGIN] = BIT(TUBE_DONE) | BIT(TUBE_UNKNOWN_CODE) | BIT(TUBE_STOPPED) | BIT(TUBE_CALL_WAITS) | BIT(16 + TUBE_BEGUN) | BIT(16 + TUBE_COMPLETE) | BIT(16 + TUBE_DENIED),
-    [LINK_STEP] = LINK_REFUSALS | 0x1FFul << 16,
-    [RUN] = LINK_REFUSALS | BIT(TUBE_BUFFER_SHORT) | BIT(16 + TUBE_TOLD_MORE) | 0xFul << (16 + TUBE_TOLD_REPLY),
+    [LINK_STEP] = LINK_REFUSALS | BIT(TUBE_STOPPED) | ((1ul << (TUBE_TOLD_END + 1)) - 1) << 16,
+    [RUN] = LINK_REFUSALS | BIT(TUBE_STOPPED) | BIT(TUBE_BUFFER_SHORT) | ENDS,
+    [READ_RECORDED] = LINK_REFUSALS | BIT(TUBE_BUFFER_SHORT) | ENDS,
     [WRITE_REPLY] = WRITER,
     [REPLY_STEP] = BIT(TUBE_UNKNOWN_CODE) | BIT(TUBE_STRING_LONG) | BIT(TUBE_STOPPED) | BIT(16 + TUBE_TAKEN_MORE) | BIT(16 + TUBE_TAKEN_LAST) | BIT(16 + TUBE_TAKEN_REFUSED),
     [READ_REPLY] = ALL_FORMS,
@@ -144,25 +147,26 @@ static void came_kind(unsigned kind, unsigned refused, unsigned number) {
 
 /* ---- Lent buffers ---- */
 
-enum { SLOTS = 4 };
+enum { SLOTS = 6, LARGE = 5 }; /* the last is for buffers longer than a page */
 
 static int heap;
 static size_t page;
 
 /* A buffer as it is lent: the memory around it that can be touched is filled and compared too. */
 static struct {
-    uint8_t *map;    /* a guard page, a page, a guard page */
+    uint8_t *map;    /* a guard page, a page or more, a guard page */
     uint8_t *area;   /* what can be touched */
     uint8_t *before; /* its bytes as they were lent */
-    size_t size, start, length;
+    size_t space, size, start, length;
 } slots[SLOTS];
 
 static void map_slots(void) {
     page = (size_t)sysconf(_SC_PAGESIZE);
     for (int i = 0; i < SLOTS; i++) {
-        slots[i].before = malloc(page);
-        slots[i].map = mmap(NULL, 3 * page, PROT_NONE, MAP_PRIVATE | MAP_ANONYMOUS, -1, 0);
-        if (slots[i].before == NULL || slots[i].map == MAP_FAILED || mprotect(slots[i].map + page, page, PROT_READ | PROT_WRITE) != 0) {
+        slots[i].space = i == LARGE ? (1 + UINT16_MAX / page) * page + page : page;
+        slots[i].before = malloc(slots[i].space);
+        slots[i].map = mmap(NULL, slots[i].space + 2 * page, PROT_NONE, MAP_PRIVATE | MAP_ANONYMOUS, -1, 0);
+        if (slots[i].before == NULL || slots[i].map == MAP_FAILED || mprotect(slots[i].map + page, slots[i].space, PROT_READ | PROT_WRITE) != 0) {
             perror("guard pages");
             exit(2);
         }
@@ -177,9 +181,9 @@ static uint8_t *lend(int slot, size_t length) {
         slots[slot].area = malloc(length);
         slots[slot].start = 0;
     } else {
-        slots[slot].size = page;
+        slots[slot].size = slots[slot].space;
         slots[slot].area = slots[slot].map + page;
-        slots[slot].start = below(2) ? page - length : 0;
+        slots[slot].start = below(2) ? slots[slot].space - length : 0;
     }
     slots[slot].length = length;
     for (size_t i = 0; i < slots[slot].size; i += 8) {
@@ -518,17 +522,23 @@ static void try_file_name(void) {
 
 /* ---- The link ---- */
 
+/* The most bytes that an action has of its own. */
+static size_t most_own(uint8_t action) {
+    static const size_t most[TUBE_IN_SAVE + 1] = {1, 257, 3, 4, 4, 4, 4};
+    return action <= TUBE_IN_SAVE ? most[action] : action > TUBE_IN_BLOCK ? action - (size_t)TUBE_IN_BLOCK : TUBE_OWN_LENGTH;
+}
+
 static TubeLink any_link(void) {
-    static const size_t most[TUBE_CALLS + 1] = {1, 2, 1, 1, 3, 255, 257, 5, 2, 1, 1, 1, 17, 15}, most_own[4] = {1, 257, 3, 4};
+    static const size_t most[TUBE_CALLS + 1] = {1, 2, 1, 1, 3, 255, 257, 5, 2, 1, 1, 1, 17, 15};
     TubeLink l;
     l.wait = below(4) ? tag(TUBE_CALLS + 1) : 1 + TUBE_OSWORD + (uint8_t)below(2);
     l.out_length = below(3) ? 255 : byte();
-    l.action = tag(4);
+    l.action = below(4) ? below(3) ? tag(4) : tag(TUBE_IN_SAVE + 1) : (uint8_t)(TUBE_IN_BLOCK + below(128));
     l.got = (uint16_t)(l.wait > 0 ? count(l.wait <= TUBE_CALLS ? most[l.wait] : 257) : below(8) == 0 ? count(2) : 0);
-    l.held = (uint16_t)(l.action > 0 ? count(l.action < 4 ? most_own[l.action] : 257) : below(8) == 0 ? count(2) : 0);
+    l.held = (uint16_t)(l.action > 0 ? count(most_own(l.action)) : below(8) == 0 ? count(2) : 0);
     if (l.action == TUBE_IN_ERROR && below(3) == 0)
         l.held = 1; /* its number alone */
-    l.flags = below(12) ? (uint8_t)below(2) : byte();
+    l.flags = below(12) ? (uint8_t)(below(2) + (below(2) ? TUBE_LINK_NESTED * below(31) : 0)) : byte();
     return l;
 }
 
@@ -539,10 +549,14 @@ static int same_link(TubeLink a, TubeLink b) {
 static int sound_told(TubeTold t, TubeLink given) {
     switch (t.kind) {
     case TUBE_TOLD_REPLY: return t.length > 0 && t.length <= TUBE_REPLY_LENGTH && t.first == 0;
-    case TUBE_TOLD_ERROR: return t.length <= 255;
-    case TUBE_TOLD_REFUSED: return t.length == 0 && t.first >= TUBE_UNKNOWN_CODE && t.first <= TUBE_BUFFER_SHORT
-                                   && (t.first < TUBE_STOPPED || same_link(t.link, given) || t.link.flags >= TUBE_LINK_STOPPED);
-    default: return t.kind < TUBE_TOLD_REFUSED && t.length == 0;
+    case TUBE_TOLD_ERROR: return t.length <= 255 && (t.link.flags | t.link.wait) == 0;
+    case TUBE_TOLD_RESTART: return t.length == 0 && (t.link.flags | t.link.wait) == 0;
+    case TUBE_TOLD_REFUSED: return t.length == 0 && (t.first == TUBE_STOPPED || t.first == TUBE_BUFFER_SHORT
+                                                         ? same_link(t.link, given)
+                                                         : (LINK_REFUSALS >> t.first & 1) != 0 && (t.link.flags & TUBE_LINK_STOPPED) != 0);
+    case TUBE_TOLD_BLOCK: return t.length > 0 && t.length < 128;
+    case TUBE_TOLD_END: return t.length == 0 && t.first <= TUBE_SAVE;
+    default: return t.kind <= TUBE_TOLD_END && t.length == 0;
     }
 }
 
@@ -578,17 +592,78 @@ static void try_link_step(void) {
     came_kind(t.kind, TUBE_TOLD_REFUSED, t.first);
     size_t got = at_most(given.got, TUBE_REPLY_LENGTH), held = at_most(given.held, TUBE_OWN_LENGTH);
     check(INSIDE, stays(0, 0, TUBE_REPLY_LENGTH) && stays(1, 0, TUBE_OWN_LENGTH));
-    check(STAYS, t.kind == TUBE_TOLD_REFUSED || t.kind == TUBE_TOLD_CHARACTER
+    check(STAYS, t.kind == TUBE_TOLD_REFUSED || t.kind == TUBE_TOLD_CHARACTER || t.kind == TUBE_TOLD_ESCAPE || t.kind == TUBE_TOLD_DATA || t.kind == TUBE_TOLD_END
                      ? all_stay(0) && all_stay(1)
                      : (all_stay(0) || all_stay(1)) && stays(0, got, at_most(got + 1, TUBE_REPLY_LENGTH)) && stays(1, held, at_most(held + 1, TUBE_OWN_LENGTH)));
     check(SOUND, sound_told(t, given) && (t.kind != TUBE_TOLD_REFUSED || t.first != TUBE_BUFFER_SHORT));
+}
+
+/* Whether these are notes, and their data is as long as they say. */
+static int sound_notes(const uint8_t *room, size_t noted, size_t stored) {
+    size_t bytes = 0;
+    for (size_t i = 0; i < noted; i++) {
+        const uint8_t *note = room + i * TUBE_NOTE;
+        if (note[0] < TUBE_TOLD_CHARACTER || (note[0] > TUBE_TOLD_ADDRESS && note[0] < TUBE_TOLD_BLOCK) || note[0] > TUBE_TOLD_END)
+            return 0;
+        if (note[0] == TUBE_TOLD_BLOCK || note[0] == TUBE_TOLD_DATA) {
+            if (note[1] == 0 || (note[0] == TUBE_TOLD_BLOCK && note[1] > 127) || (note[2] | note[3] | note[4]) != 0)
+                return 0;
+            bytes += note[1];
+        }
+    }
+    return bytes == stored;
+}
+
+enum { PART = 12 };
+
+/* A part of a stream, whatever stands before it: some data, an end, a control block, or an address for any use. How many bytes it has. */
+static size_t any_part(uint8_t at[PART]) {
+    size_t length = 0;
+    switch (below(8)) {
+    case 0: case 1: case 2: /* data */
+        for (size_t some = 1 + below(PART - 1); length < some; length++) {
+            at[length] = edge();
+            if (at[length] == TUBE_ESCAPE_BYTE)
+                at[++length] = TUBE_ESCAPE_BYTE;
+        }
+        return length;
+    case 3: case 4: /* an end */
+        at[0] = TUBE_ESCAPE_BYTE, at[1] = (uint8_t)(0xB0 + below(16));
+        return 2;
+    case 5: /* a control block */
+        length = 1 + below(5);
+        at[0] = TUBE_ESCAPE_BYTE, at[1] = (uint8_t)length;
+        memset(at + 2, below(2) ? 0x0D : 0x41, length);
+        return 2 + length;
+    default: /* an address, of a load or save in three cases of four */
+        at[0] = TUBE_ESCAPE_BYTE, at[1] = (uint8_t)(0xC0 + below(64));
+        if (below(2))
+            at[1] |= 0x20;
+        memcpy(at + 2, "\0\0\x19\0", 4);
+        return 6;
+    }
+}
+
+/* Puts such parts over some of a stream. */
+static void put_parts(uint8_t *raw, size_t length) {
+    uint8_t part[PART];
+    for (size_t at = below(4); at + sizeof part <= length;) {
+        size_t some = any_part(part);
+        memcpy(raw + at, part, some);
+        at += some + (below(8) ? 0 : below(4));
+    }
 }
 
 static void try_run(void) {
     static TubeLink kept;
     TubeLink given = below(2) ? any_link() : kept;
     size_t length = length_of(), need = TUBE_NOTE * length, room_length = need + below(4) - (need > 0 && below(4) == 0);
+    size_t bytes = length + given.held, data_length = bytes + below(4) - (bytes > 0 && below(4) == 0);
+    if (data_length > page && below(8) > 0)
+        data_length = below(400); /* too short for a record that says it holds that much */
     uint8_t *raw = lend(0, length);
+    if (below(2))
+        put_parts(raw, length);
     if (length >= 4 && below(4) == 0)
         memcpy(raw + below(length - 3), "\x9B\0\0\0", 4); /* a restart */
     filled(0);
@@ -598,35 +673,151 @@ static void try_run(void) {
     filled(2);
     uint8_t *room = lend(3, room_length);
     filled(3);
-    TubeRan r = tube_run(given, raw, length, reply, own, room, room_length);
+    const int last = data_length > page ? LARGE : 4;
+    uint8_t *data = lend(last, data_length);
+    filled(last);
+    TubeRan r = tube_run(given, raw, length, reply, own, room, room_length, data, data_length);
     came_kind(r.told.kind, TUBE_TOLD_REFUSED, r.told.first);
     size_t got = at_most(given.got, TUBE_REPLY_LENGTH), held = at_most(given.held, TUBE_OWN_LENGTH);
-    int tight = room_length < need;
-    check(INSIDE, stays(1, 0, TUBE_REPLY_LENGTH) && stays(2, 0, TUBE_OWN_LENGTH) && stays(3, 0, room_length));
-    check(STAYS, tight ? all_stay(0) && all_stay(1) && all_stay(2) && all_stay(3)
+    int tight = room_length < need || data_length < bytes;
+    check(INSIDE, stays(1, 0, TUBE_REPLY_LENGTH) && stays(2, 0, TUBE_OWN_LENGTH) && stays(3, 0, room_length) && stays(last, 0, data_length));
+    check(STAYS, tight ? all_stay(0) && all_stay(1) && all_stay(2) && all_stay(3) && all_stay(last)
                        : all_stay(0) && stays(1, got, at_most(got + r.used, TUBE_REPLY_LENGTH)) && stays(2, 0, at_most(held + r.used, TUBE_OWN_LENGTH))
-                             && stays(3, 0, at_most(TUBE_NOTE * r.noted, room_length)));
-    int notes = r.noted <= r.used && r.used <= length;
-    for (size_t i = 0; notes && i < r.noted; i++)
-        notes = room[i * TUBE_NOTE] >= TUBE_TOLD_CHARACTER && room[i * TUBE_NOTE] <= TUBE_TOLD_ADDRESS;
+                             && stays(3, 0, at_most(TUBE_NOTE * r.noted, room_length)) && stays(last, 0, at_most(r.stored, data_length)));
+    int notes = r.noted <= r.used && r.used <= length && r.stored <= r.used + held && sound_notes(room, at_most(r.noted, length), r.stored);
     check(SOUND, notes && sound_told(r.told, given)
-                     && (tight ? r.told.kind == TUBE_TOLD_REFUSED && r.told.first == TUBE_BUFFER_SHORT && r.used == 0 && r.noted == 0 && same_link(r.told.link, given)
-                               : r.told.kind == TUBE_TOLD_MORE ? r.used == length : r.used > 0 && r.told.kind >= TUBE_TOLD_REPLY));
+                     && (tight ? r.told.kind == TUBE_TOLD_REFUSED && r.told.first == TUBE_BUFFER_SHORT && r.used == 0 && r.noted == 0 && r.stored == 0 && same_link(r.told.link, given)
+                               : r.told.kind == TUBE_TOLD_MORE ? r.used == length : r.used > 0 && r.told.kind >= TUBE_TOLD_REPLY && r.told.kind <= TUBE_TOLD_REFUSED));
     kept = r.told.kind == TUBE_TOLD_REFUSED ? tube_link() : r.told.link;
     if (below(2))
         kept = tube_begin(kept, tag(TUBE_CALLS), byte()).link;
+}
+
+/* ---- Recorded replies ---- */
+
+/* Puts the reply to a call over the start of a stream, with actions before some of its bytes and with transfers that are opened and closed again, one
+ * inside the other. Where it does not fit, what stood there before follows. */
+static void put_recording(uint8_t *raw, size_t length, uint8_t call, uint8_t out_length) {
+    static const uint16_t most[TUBE_CALLS] = {2, 1, 1, 3, 0, 20, 5, 2, 1, 1, 1, 17, 15};
+    size_t at = 0, left = call >= TUBE_CALLS ? 0 : call == TUBE_OSWORD ? out_length : most[call], open = 0;
+    if (call == TUBE_OSWORD0 && below(4) == 0)
+        left = 250 + below(10); /* a line around the longest */
+    uint8_t saves[TUBE_TRANSFERS] = {0}, bytes[300];
+    while (left > 0 || open > 0) {
+        size_t some = 2;
+        bytes[0] = TUBE_ESCAPE_BYTE;
+        switch (below(open > 0 ? 10 : 14)) {
+        case 0: case 1: /* a load or save, and now and then the mark of a fifth */
+            bytes[1] = (uint8_t)(0xE0 + below(32));
+            if (open == TUBE_TRANSFERS) {
+                if (below(8) > 0)
+                    continue;
+                break;
+            }
+            memcpy(bytes + 2, "\0\0\x19\0", 4);
+            saves[open++] = bytes[1] >= 0xF0;
+            some = 6;
+            break;
+        case 2: /* a control block */
+            some = 1 + (below(8) ? below(8) : below(127));
+            bytes[1] = (uint8_t)some;
+            for (size_t i = 0; i < some; i++)
+                bytes[2 + i] = (uint8_t)(i + 1);
+            some += 2;
+            break;
+        case 3: /* the Escape state, an event, execute; now and then an error, whose text may be too long, or a restart */
+            memcpy(bytes + 2, "\1\2\3\4", 4);
+            switch (below(12)) {
+            case 0:
+                some = below(3) ? below(4) : 253 + below(6);
+                memset(bytes + 1, 'x', 2 + some);
+                bytes[1] = 0x00, bytes[2] = (uint8_t)below(2), bytes[3 + some] = 0x00;
+                some += 4;
+                break;
+            case 1: case 2: bytes[1] = (uint8_t)(0x90 + below(8)), some = 5; break;
+            case 3: case 4: bytes[1] = (uint8_t)(0xD0 + below(16)), some = 6; break;
+            default: bytes[1] = (uint8_t)(0x80 + below(16)); break;
+            }
+            break;
+        case 4: case 5: /* an end, and now and then one of none */
+            if (open == 0 && below(8) > 0)
+                continue;
+            bytes[1] = (uint8_t)(0xB0 + below(16));
+            open -= open > 0;
+            break;
+        default: /* data: of the innermost load, or of the reply; now and then in a save */
+            if (open > 0 && saves[open - 1] && below(8) > 0)
+                continue;
+            if (open > 0 && below(4) == 0) {
+                some = below(4) ? 1 + below(20) : below(256); /* many bytes of a load */
+                memset(bytes, below(2) ? 0x0D : 0x41, some);
+                break;
+            }
+            bytes[0] = edge();
+            if (call == TUBE_OSWORD0 && open == 0)
+                bytes[0] = left == 1 ? 0x0D : bytes[0] & 0x7F;
+            bytes[1] = TUBE_ESCAPE_BYTE;
+            some = bytes[0] == TUBE_ESCAPE_BYTE ? 2 : 1;
+            left -= open == 0;
+        }
+        if (some > length - at)
+            return;
+        memcpy(raw + at, bytes, some);
+        at += some;
+    }
+}
+
+/* Against tube_run over the same bytes, from a fresh link with the call begun. */
+static void try_read_recorded(void) {
+    static uint8_t reply[TUBE_REPLY_LENGTH], own[TUBE_OWN_LENGTH], notes[2048 * TUBE_NOTE], bytes[2048];
+    static const uint8_t longer[4] = {TUBE_OSWORD, TUBE_OSWORD0, TUBE_OSFILE, TUBE_OSGBPB};
+    uint8_t call = below(2) ? longer[below(4)] : below(8) ? (uint8_t)below(TUBE_CALLS) : byte(), out_length = below(3) ? (uint8_t)below(8) : byte();
+    size_t length = below(2) ? length_of() : below(700);
+    uint8_t *raw = lend(0, length);
+    switch (below(4)) {
+    case 0: break;
+    case 1: put_parts(raw, length); break;
+    default: put_recording(raw, length, call, out_length); break;
+    }
+    filled(0);
+    TubeBegun b = tube_begin(tube_link(), call, out_length);
+    TubeRan run = tube_run(b.link, raw, b.kind == TUBE_BEGUN ? length : 0, reply, own, notes, sizeof notes, bytes, sizeof bytes);
+    const size_t need = TUBE_NOTE * run.noted, room_length = room_for(need), data_length = room_for(run.stored);
+    uint8_t *room = lend(1, room_length);
+    filled(1);
+    uint8_t *data = lend(2, data_length);
+    filled(2);
+    uint8_t *out = lend(3, TUBE_REPLY_LENGTH);
+    filled(3);
+    TubeRecorded r = tube_read_recorded(call, out_length, raw, length, room, room_length, data, data_length, out);
+    came_kind(r.kind, TUBE_TOLD_REFUSED, r.number);
+    const int tight = room_length < need || data_length < run.stored;
+    const size_t ends = r.kind == TUBE_TOLD_REPLY ? r.length : r.kind == TUBE_TOLD_ERROR ? 1 + r.length : 0;
+    check(INSIDE, stays(1, 0, room_length) && stays(2, 0, data_length) && stays(3, 0, TUBE_REPLY_LENGTH));
+    check(STAYS, tight ? all_stay(0) && all_stay(1) && all_stay(2) && all_stay(3)
+                       : all_stay(0) && stays(1, 0, need) && stays(2, 0, run.stored) && stays(3, 0, at_most(ends, TUBE_REPLY_LENGTH)));
+    int sound = r.noted == run.noted && r.stored == run.stored;
+    if (tight)
+        sound = sound && r.kind == TUBE_TOLD_REFUSED && r.number == TUBE_BUFFER_SHORT && r.used == 0 && r.length == 0;
+    else if (b.kind != TUBE_BEGUN)
+        sound = sound && r.used == 0 && r.length == 0 && r.kind == (b.kind == TUBE_COMPLETE ? TUBE_TOLD_REPLY : TUBE_TOLD_REFUSED) && r.number == b.answer;
+    else
+        sound = sound && r.kind == run.told.kind && r.used == run.used && r.length == run.told.length
+                && r.number == (r.kind == TUBE_TOLD_ERROR || r.kind == TUBE_TOLD_REFUSED ? run.told.first : 0) && memcmp(room, notes, need) == 0 && memcmp(data, bytes, run.stored) == 0
+                && memcmp(out, r.kind == TUBE_TOLD_ERROR ? own : reply, ends) == 0 && sound_notes(room, r.noted, r.stored);
+    check(SOUND, sound);
 }
 
 /* ---- Replies ---- */
 
 /* Whether a reply written is read again as one, at its last byte. */
 static int reply_reads(uint8_t carrier, uint8_t call, uint8_t out_length, const uint8_t *bytes, size_t length) {
-    static uint8_t reply[TUBE_REPLY_LENGTH], own[TUBE_OWN_LENGTH], room[2 * TUBE_REPLY_LENGTH * TUBE_NOTE];
+    static uint8_t reply[TUBE_REPLY_LENGTH], own[TUBE_OWN_LENGTH], room[2 * TUBE_REPLY_LENGTH * TUBE_NOTE], data[2 * TUBE_REPLY_LENGTH];
     if (call == TUBE_OSWORD && out_length == 0)
         return length == 0;
     if (carrier == TUBE_SERIAL) {
-        TubeRan r = tube_run(tube_begin(tube_link(), call, out_length).link, bytes, length, reply, own, room, sizeof room);
-        return r.told.kind == TUBE_TOLD_REPLY && r.used == length && r.noted == 0;
+        TubeRan r = tube_run(tube_begin(tube_link(), call, out_length).link, bytes, length, reply, own, room, sizeof room, data, sizeof data);
+        return r.told.kind == TUBE_TOLD_REPLY && r.used == length && r.noted == 0 && r.stored == 0;
     }
     TubeTaken b = {0, TUBE_TAKEN_MORE, 0};
     for (size_t i = 0; i < length && b.kind == TUBE_TAKEN_MORE; i++)
@@ -697,7 +888,7 @@ static void try_read_reply(void) {
 
 static void (*const trials[EXPORTS])(void) = {
     try_access, try_new, try_reset, try_lines, try_play, try_text, try_reader, try_read, try_feed, try_write_request,
-    try_kind_of, try_read_request, try_file_name, try_link, try_begin, try_link_step, try_run, try_write_reply, try_reply_step, try_read_reply};
+    try_kind_of, try_read_request, try_file_name, try_link, try_begin, try_link_step, try_run, try_read_recorded, try_write_reply, try_reply_step, try_read_reply};
 
 static sigjmp_buf out_of_call;
 
@@ -708,18 +899,18 @@ static void caught(int number) {
 
 /* Whether a byte right behind a buffer, and one right before, is caught. */
 static int pages_guard(void) {
-    static volatile uint8_t *edges[4];
+    static volatile uint8_t *edges[2 * SLOTS];
     static volatile int i, times;
-    for (int slot = 0; slot < 2; slot++) {
+    for (int slot = 0; slot < SLOTS; slot++) {
         edges[2 * slot] = slots[slot].map + page - 1;
-        edges[2 * slot + 1] = slots[slot].map + 2 * page;
+        edges[2 * slot + 1] = slots[slot].map + page + slots[slot].space;
     }
-    for (i = 0, times = 0; i < 4; i++)
+    for (i = 0, times = 0; i < 2 * SLOTS; i++)
         if (sigsetjmp(out_of_call, 0) == 0)
             *edges[i] = 1;
         else
             times++;
-    return times == 4;
+    return times == 2 * SLOTS;
 }
 
 int main(int arguments, char **values) {

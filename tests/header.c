@@ -2,6 +2,7 @@
  * buffers just long enough and one byte short. Each lent byte that must stay is compared. */
 #include "../include/tube.h"
 #include <stdio.h>
+#include <stdlib.h>
 #include <string.h>
 
 static int run, failed;
@@ -34,7 +35,7 @@ static int kept(const Lent *lent, size_t from, size_t length) {
     return 1;
 }
 
-static Lent one, two, three;
+static Lent one, two, three, spare;
 
 /* ---- The layout ---- */
 
@@ -60,7 +61,9 @@ static void layout(void) {
                                      && sizeof(TubeTold) == 24 && AT(TubeTold, link, 0) && AT(TubeTold, length, 8) && AT(TubeTold, kind, 16)
                                      && AT(TubeTold, first, 20) && AT(TubeTold, second, 21) && AT(TubeTold, third, 22) && AT(TubeTold, fourth, 23)
                                      && sizeof(TubeBegun) == 10 && AT(TubeBegun, link, 0) && AT(TubeBegun, kind, 8) && AT(TubeBegun, answer, 9)
-                                     && sizeof(TubeRan) == 40 && AT(TubeRan, told, 0) && AT(TubeRan, used, 24) && AT(TubeRan, noted, 32));
+                                     && sizeof(TubeRan) == 48 && AT(TubeRan, told, 0) && AT(TubeRan, used, 24) && AT(TubeRan, noted, 32) && AT(TubeRan, stored, 40));
+    expect("layout of a recorded reply", sizeof(TubeRecorded) == 40 && AT(TubeRecorded, used, 0) && AT(TubeRecorded, noted, 8) && AT(TubeRecorded, stored, 16)
+                                             && AT(TubeRecorded, length, 24) && AT(TubeRecorded, kind, 32) && AT(TubeRecorded, number, 36));
     expect("layout of a reply read", sizeof(TubeGiven) == 40 && AT(TubeGiven, block_start, 0) && AT(TubeGiven, block_length, 8)
                                          && AT(TubeGiven, text_start, 16) && AT(TubeGiven, text_length, 24) && AT(TubeGiven, reply, 32)
                                          && AT(TubeGiven, carry, 33) && AT(TubeGiven, x, 34) && AT(TubeGiven, y, 35) && AT(TubeGiven, a, 36));
@@ -503,24 +506,32 @@ static TubeTold stepped(TubeLink link, const uint8_t *raw, size_t length, uint8_
     return t;
 }
 
+enum { MOST_FLAGS = TUBE_LINK_ESCAPE + TUBE_LINK_STOPPED + 30 * TUBE_LINK_NESTED };
+
 /* Links that are stopped or beyond a limit. */
 static TubeLink odd_link(int i) {
     TubeLink odd = tube_link();
     switch (i) {
     case 0: odd.wait = TUBE_CALLS + 1; break;
-    case 1: odd.action = TUBE_IN_ADDRESS + 1; break;
+    case 1: odd.action = TUBE_IN_SAVE + 1; break;
     case 2: odd.flags = TUBE_LINK_STOPPED; break;
     case 3: odd.got = 1; break;
     case 4: odd.held = UINT16_MAX; break;
     case 5: odd.wait = 1 + TUBE_OSBGET, odd.got = 2; break;
     case 6: odd.action = TUBE_IN_ERROR, odd.held = TUBE_OWN_LENGTH; break;
-    case 7: odd.flags = TUBE_LINK_STOPPED + TUBE_LINK_ESCAPE + 1; break;
+    case 7: odd.flags = MOST_FLAGS + 1; break;
+    case 8: odd.flags = UINT8_MAX - TUBE_LINK_STOPPED; break;
+    case 9: odd.action = TUBE_IN_BLOCK; break;
+    case 10: odd.action = TUBE_IN_BLOCK + 1, odd.held = 1; break;
+    case 11: odd.action = TUBE_IN_EXECUTE, odd.held = 4; break;
+    case 12: odd.action = TUBE_IN_LOAD, odd.flags = 15 * TUBE_LINK_NESTED; break; /* a fifth transfer inside four loads */
+    case 13: odd.action = TUBE_IN_SAVE, odd.flags = 30 * TUBE_LINK_NESTED; break;
     default: odd.wait = 1 + TUBE_OSWORD; break; /* with out length 0 */
     }
     return odd;
 }
 
-enum { ODD_LINKS = 9 };
+enum { ODD_LINKS = 15 };
 
 static void calls_begun(void) {
     const TubeLink fresh = tube_link();
@@ -598,7 +609,7 @@ static void steps(void) {
     TubeLink stopped = waits;
     stopped.flags = TUBE_LINK_ESCAPE + TUBE_LINK_STOPPED;
     own = lend(&two);
-    TubeTold four = stepped(waits, (const uint8_t[2]){0x9B, 0x01}, 2, reply, own);
+    TubeTold four = stepped(waits, (const uint8_t[2]){0x9B, 0xA1}, 2, reply, own);
     refused = refused && told(four, TUBE_TOLD_REFUSED, 0, TUBE_UNKNOWN_CODE, 0, 0, 0) && same_link(four.link, stopped) && kept(&two, 0, 0);
     TubeTold five = stepped(waits, (const uint8_t[4]){0x9B, 0x90, 0x9B, 0x80}, 4, reply, own);
     expect("tube_link_step: refusals 4, 5, 6 stop the link", refused && told(five, TUBE_TOLD_REFUSED, 0, TUBE_MARK_INSIDE, 0, 0, 0) && five.link.flags == TUBE_LINK_ESCAPE + TUBE_LINK_STOPPED);
@@ -623,42 +634,626 @@ static void steps(void) {
     expect("tube_link_step: a stopped link and one beyond its limits", given && kept(&one, 0, 0) && kept(&two, 0, 0));
 }
 
-static int ran(TubeRan r, uint8_t kind, size_t length, uint8_t first, size_t used, size_t noted) {
-    return told(r.told, kind, length, first, 0, 0, 0) && r.used == used && r.noted == noted;
+/* ---- Transfers ---- */
+
+/* Raw bytes of which every one but the last needs more; what the last gives. */
+static TubeTold last_of(TubeLink link, const uint8_t *raw, size_t length, uint8_t *reply, uint8_t *own) {
+    TubeTold t = {.link = link};
+    for (size_t i = 0; i < length; i++) {
+        if (t.kind != TUBE_TOLD_MORE)
+            return (TubeTold){.kind = UINT32_MAX};
+        t = tube_link_step(t.link, raw[i], reply, own);
+    }
+    return t;
+}
+
+/* The same link with other transfers open, by their number. */
+static TubeLink nested(TubeLink link, unsigned number) {
+    link.flags = (uint8_t)(TUBE_LINK_NESTED * number);
+    return link;
+}
+
+/* The numbers of the open transfers: from 15 on four are open. */
+enum { NESTINGS = 31, FULL = 15 };
+
+static void transfers_open(void) {
+    expect("numbers of transfers", TUBE_TOO_DEEP == 13 && TUBE_LOAD == 0 && TUBE_SAVE == 1 && TUBE_TRANSFERS == 4 && TUBE_IN_EXECUTE == 4 && TUBE_IN_LOAD == 5 && TUBE_IN_SAVE == 6
+                                       && TUBE_IN_BLOCK == 128 && TUBE_LINK_ESCAPE == 1 && TUBE_LINK_STOPPED == 2 && TUBE_LINK_NESTED == 4 && TUBE_TOLD_BLOCK == 9
+                                       && TUBE_TOLD_EXECUTE == 10 && TUBE_TOLD_LOAD == 11 && TUBE_TOLD_SAVE == 12 && TUBE_TOLD_DATA == 13 && TUBE_TOLD_END == 14);
+
+    const TubeLink fresh = tube_link(), waits = tube_begin(fresh, TUBE_OSBGET, 0).link;
+    uint8_t *reply = lend(&one), *own = lend(&two);
+
+    /* A control block of every length, with an escape in it where there is room for one. */
+    int blocks = 1;
+    for (uint8_t n = 1; n < 128; n++) {
+        uint8_t raw[2 + 127 + 1] = {0x9B, n}, bytes[127];
+        memcpy(bytes, letters, sizeof bytes);
+        memcpy(raw + 2, letters, 127);
+        const size_t pair = n > 1;
+        if (pair) {
+            bytes[n - 2] = raw[n] = raw[n + 1] = 0x9B;
+            raw[n + 2] = bytes[n - 1];
+        }
+        own = lend(&two);
+        TubeTold opened = last_of(waits, raw, 2, reply, own), before = last_of(waits, raw, 1u + n + pair, reply, own);
+        TubeLink open = waits, nearly = waits;
+        open.action = nearly.action = (uint8_t)(TUBE_IN_BLOCK + n), nearly.held = (uint16_t)(n - 1);
+        blocks = blocks && told(opened, TUBE_TOLD_MORE, 0, 0, 0, 0, 0) && same_link(opened.link, open) && told(before, TUBE_TOLD_MORE, 0, 0, 0, 0, 0) && same_link(before.link, nearly);
+        own = lend(&two);
+        TubeTold t = last_of(waits, raw, 2u + n + pair, reply, own);
+        blocks = blocks && told(t, TUBE_TOLD_BLOCK, n, 0, 0, 0, 0) && same_link(t.link, waits) && memcmp(own, bytes, n) == 0 && kept(&two, 0, n);
+    }
+    expect("tube_link_step: a control block of 1 to 127 bytes", blocks && kept(&one, 0, 0));
+
+    /* Execute, load and save, whatever the low bits of their marks. */
+    static const struct {
+        uint8_t mark, action, kind, flags;
+    } places[3] = {{0xD0, TUBE_IN_EXECUTE, TUBE_TOLD_EXECUTE, 0}, {0xE0, TUBE_IN_LOAD, TUBE_TOLD_LOAD, 4}, {0xF0, TUBE_IN_SAVE, TUBE_TOLD_SAVE, 8}};
+    int addresses = 1;
+    for (int i = 0; i < 3; i++)
+        for (int low = 0; low < 16; low++) {
+            const uint8_t raw[6] = {0x9B, (uint8_t)(places[i].mark + low), 1, 2, 3, 4};
+            own = lend(&two);
+            for (uint16_t held = 0; held < 4; held++) {
+                TubeTold t = last_of(waits, raw, 2u + held, reply, own);
+                TubeLink open = waits;
+                open.action = places[i].action, open.held = held;
+                addresses = addresses && told(t, TUBE_TOLD_MORE, 0, 0, 0, 0, 0) && same_link(t.link, open) && kept(&two, 0, held);
+            }
+            TubeTold t = last_of(waits, raw, 6, reply, own);
+            TubeLink behind = waits;
+            behind.flags = places[i].flags;
+            addresses = addresses && told(t, places[i].kind, 0, 1, 2, 3, 4) && same_link(t.link, behind) && memcmp(own, raw + 2, 4) == 0 && kept(&two, 0, 4);
+        }
+    expect("tube_link_step: execute, load and save with their addresses", addresses && kept(&one, 0, 0));
+
+    /* Every way to open up to four, and to close them again: bit i of `ways` says whether the transfer i is a save. */
+    int flags = 1;
+    for (unsigned count = 1; count <= TUBE_TRANSFERS; count++)
+        for (unsigned ways = 0; ways < 1u << count; ways++) {
+            TubeLink link = waits;
+            unsigned number = 0;
+            for (unsigned i = 0; i < count; i++) {
+                const unsigned save = ways >> i & 1;
+                const uint8_t raw[6] = {0x9B, save ? 0xF0 : 0xE0, 0x12, 0x34, 0x9A, (uint8_t)i};
+                TubeTold t = last_of(link, raw, 6, reply, own);
+                number = 2 * number + 1 + save;
+                flags = flags && told(t, save ? TUBE_TOLD_SAVE : TUBE_TOLD_LOAD, 0, 0x12, 0x34, 0x9A, (uint8_t)i) && same_link(t.link, nested(waits, number));
+                link = t.link;
+            }
+            flags = flags && number < NESTINGS && (number >= FULL) == (count == TUBE_TRANSFERS);
+            for (unsigned i = count; i-- > 0;) {
+                const unsigned save = ways >> i & 1;
+                TubeTold t = last_of(link, (const uint8_t[2]){0x9B, 0xB0}, 2, reply, own);
+                number = (number - 1) / 2;
+                flags = flags && told(t, TUBE_TOLD_END, 0, save ? TUBE_SAVE : TUBE_LOAD, 0, 0, 0) && same_link(t.link, nested(waits, number));
+                link = t.link;
+            }
+            flags = flags && same_link(link, waits);
+        }
+    const uint8_t three_open[18] = {0x9B, 0xE0, 0, 0, 0x19, 0, 0x9B, 0xF0, 0, 0, 0x80, 0, 0x9B, 0xE0, 0, 0, 0x19, 0};
+    TubeTold third = stepped(waits, three_open, 18, reply, own);
+    expect("tube_link_step: the flags behind every way to open and close transfers", flags && third.link.flags == 36 && third.link.action == TUBE_NO_ACTION && kept(&one, 0, 0) && kept(&two, 0, 4));
+
+    /* The address of one more is read where at most three are open, its mark with four is 13; any other action goes on. */
+    int fifth = 1, odd = 1;
+    own = lend(&two);
+    for (unsigned number = 0; number < NESTINGS; number++)
+        for (int low = 0; low < 16; low++) {
+            const TubeLink link = nested(waits, number);
+            TubeLink stopped = link;
+            stopped.flags += TUBE_LINK_ESCAPE + TUBE_LINK_STOPPED;
+            for (int save = 0; save < 2; save++) {
+                TubeLink address = link;
+                address.action = save ? TUBE_IN_SAVE : TUBE_IN_LOAD;
+                TubeTold t = last_of(link, (const uint8_t[2]){0x9B, (uint8_t)((save ? 0xF0 : 0xE0) + low)}, 2, reply, own);
+                fifth = fifth && (number < FULL ? told(t, TUBE_TOLD_MORE, 0, 0, 0, 0, 0) && same_link(t.link, address)
+                                                : told(t, TUBE_TOLD_REFUSED, 0, TUBE_TOO_DEEP, 0, 0, 0) && same_link(t.link, stopped));
+                /* A record that says that the address is open, whatever led there. */
+                TubeTold first = tube_link_step(address, 0x12, reply, own);
+                odd = odd && (number < FULL ? told(first, TUBE_TOLD_MORE, 0, 0, 0, 0, 0) && first.link.held == 1
+                                            : told(first, TUBE_TOLD_REFUSED, 0, TUBE_STOPPED, 0, 0, 0) && same_link(first.link, address));
+            }
+            TubeTold unknown = last_of(link, (const uint8_t[2]){0x9B, (uint8_t)(0xA0 + low)}, 2, reply, own), execute = last_of(link, (const uint8_t[2]){0x9B, (uint8_t)(0xD0 + low)}, 2, reply, own);
+            TubeTold block = last_of(link, (const uint8_t[2]){0x9B, (uint8_t)(1 + low)}, 2, reply, own), inside = stepped(link, (const uint8_t[4]){0x9B, 0xC0, 0x9B, (uint8_t)(0xE0 + low)}, 4, reply, own);
+            fifth = fifth && told(unknown, TUBE_TOLD_REFUSED, 0, TUBE_UNKNOWN_CODE, 0, 0, 0) && same_link(unknown.link, stopped)
+                    && told(execute, TUBE_TOLD_MORE, 0, 0, 0, 0, 0) && execute.link.action == TUBE_IN_EXECUTE && execute.link.flags == link.flags
+                    && told(block, TUBE_TOLD_MORE, 0, 0, 0, 0, 0) && block.link.action == TUBE_IN_BLOCK + 1 + low && block.link.flags == link.flags
+                    && told(inside, TUBE_TOLD_REFUSED, 0, TUBE_MARK_INSIDE, 0, 0, 0) && inside.link.flags == stopped.flags && inside.link.action == TUBE_IN_ADDRESS;
+        }
+    expect("tube_link_step: a fifth transfer is 13, behind 5 and 4", fifth && kept(&one, 0, 0));
+    expect("tube_link_step: four transfers open and an address of a fifth", odd && kept(&two, 0, 1));
+
+    /* Every number of flags and of an action, and as many bytes of an action as it has. */
+    int numbers = 1;
+    own = lend(&two);
+    for (unsigned i = 0; i < 256; i++) {
+        TubeLink flagged = fresh, acting = fresh;
+        flagged.flags = (uint8_t)i, acting.action = (uint8_t)i;
+        TubeTold f = tube_link_step(flagged, 'A', reply, own), a = tube_link_step(acting, 'A', reply, own);
+        const int stopped = i > MOST_FLAGS || (i & TUBE_LINK_STOPPED) != 0, no_action = i > TUBE_IN_SAVE && i <= TUBE_IN_BLOCK;
+        numbers = numbers && stopped == (f.kind == TUBE_TOLD_REFUSED && f.first == TUBE_STOPPED) && (!stopped || same_link(f.link, flagged))
+                  && no_action == (a.kind == TUBE_TOLD_REFUSED) && (!no_action || (a.first == TUBE_STOPPED && same_link(a.link, acting)));
+        static const uint16_t most[7] = {0, TUBE_OWN_LENGTH, 3, 4, 4, 4, 4};
+        if (no_action)
+            continue;
+        acting.held = i > TUBE_IN_BLOCK ? (uint16_t)(i - TUBE_IN_BLOCK) : most[i];
+        if (acting.held > 0) {
+            TubeTold over = tube_link_step(acting, 0, reply, own);
+            numbers = numbers && told(over, TUBE_TOLD_REFUSED, 0, TUBE_STOPPED, 0, 0, 0) && same_link(over.link, acting);
+            acting.held--;
+            TubeTold ends = tube_link_step(acting, 0, reply, own);
+            numbers = numbers && ends.kind != TUBE_TOLD_MORE && ends.kind != TUBE_TOLD_REFUSED && ends.link.held == 0 && ends.link.action == TUBE_NO_ACTION;
+        }
+    }
+    expect("tube_link_step: every number of flags and of an action, and its last byte", numbers && kept(&one, 0, 0));
+}
+
+static void transfers_closed(void) {
+    const TubeLink fresh = tube_link(), waits = tube_begin(fresh, TUBE_OSBGET, 0).link;
+    uint8_t *reply = lend(&one), *own = lend(&two);
+
+    /* Idle or waiting, at every nesting: a byte of the innermost load, and 9 where a save is innermost. */
+    int loads = 1, saves = 1, ends = 1;
+    for (int idle = 0; idle < 2; idle++)
+        for (unsigned number = 1; number < NESTINGS; number++) {
+            const TubeLink link = nested(idle ? fresh : waits, number);
+            for (int i = 0; i < 256; i++) {
+                const uint8_t raw[2] = {(uint8_t)i, (uint8_t)i};
+                const size_t length = i == TUBE_ESCAPE_BYTE ? 2 : 1;
+                TubeTold t = last_of(link, raw, length, reply, own);
+                TubeLink stopped = link;
+                stopped.flags += TUBE_LINK_STOPPED + (length == 2 ? TUBE_LINK_ESCAPE : 0);
+                if (number % 2 == 1)
+                    loads = loads && told(t, TUBE_TOLD_DATA, 0, (uint8_t)i, 0, 0, 0) && same_link(t.link, link);
+                else
+                    saves = saves && told(t, TUBE_TOLD_REFUSED, 0, TUBE_BAD_FIELD, 0, 0, 0) && same_link(t.link, stopped);
+            }
+            for (int low = 0; low < 16; low++) {
+                TubeTold t = last_of(link, (const uint8_t[2]){0x9B, (uint8_t)(0xB0 + low)}, 2, reply, own);
+                ends = ends && told(t, TUBE_TOLD_END, 0, number % 2 == 1 ? TUBE_LOAD : TUBE_SAVE, 0, 0, 0) && same_link(t.link, nested(link, (number - 1) / 2));
+            }
+        }
+    expect("tube_link_step: every byte inside a load is its data", loads);
+    expect("tube_link_step: every byte inside a save is refused with 9", saves);
+    for (int low = 0; low < 16; low++) {
+        TubeLink stopped = waits;
+        stopped.flags = TUBE_LINK_ESCAPE + TUBE_LINK_STOPPED;
+        TubeTold t = last_of(waits, (const uint8_t[2]){0x9B, (uint8_t)(0xB0 + low)}, 2, reply, own);
+        ends = ends && told(t, TUBE_TOLD_REFUSED, 0, TUBE_MARK_INSIDE, 0, 0, 0) && same_link(t.link, stopped);
+    }
+    expect("tube_link_step: an end closes the innermost transfer, and is 5 with none open", ends && kept(&one, 0, 0) && kept(&two, 0, 0));
+
+    /* An error and a restart close all. */
+    int closed = 1;
+    for (unsigned number = 0; number < NESTINGS; number++) {
+        TubeTold error = last_of(nested(waits, number), (const uint8_t[6]){0x9B, 0x00, 0xFE, 'N', 'o', 0}, 6, reply, own);
+        closed = closed && told(error, TUBE_TOLD_ERROR, 2, 0xFE, 0, 0, 0) && same_link(error.link, fresh) && memcmp(own, "\xFENo", 4) == 0;
+        TubeTold restart = last_of(nested(waits, number), (const uint8_t[4]){0x9B, 0, 0, 0}, 4, reply, own);
+        closed = closed && told(restart, TUBE_TOLD_RESTART, 0, 0, 0, 0, 0) && same_link(restart.link, fresh);
+    }
+    expect("tube_link_step: an error and a restart close every transfer and end the call", closed && kept(&one, 0, 0) && kept(&two, 0, 4));
+
+    /* Actions inside a load and a save leave it open and give no data. */
+    int inside = 1;
+    for (unsigned number = 1; number < NESTINGS; number++) {
+        const TubeLink link = nested(waits, number);
+        own = lend(&two);
+        TubeTold escape = last_of(link, (const uint8_t[2]){0x9B, 0x81}, 2, reply, own), event = last_of(link, (const uint8_t[5]){0x9B, 0x90, 1, 2, 3}, 5, reply, own);
+        TubeTold address = last_of(link, (const uint8_t[6]){0x9B, 0xC0, 1, 2, 3, 4}, 6, reply, own), execute = last_of(link, (const uint8_t[6]){0x9B, 0xD0, 5, 6, 7, 8}, 6, reply, own);
+        TubeTold block = last_of(link, (const uint8_t[5]){0x9B, 0x02, 0x0D, 0x9B, 0x9B}, 5, reply, own);
+        inside = inside && told(escape, TUBE_TOLD_ESCAPE, 0, 1, 0, 0, 0) && told(event, TUBE_TOLD_EVENT, 0, 1, 2, 3, 0) && told(address, TUBE_TOLD_ADDRESS, 0, 1, 2, 3, 4)
+                 && told(execute, TUBE_TOLD_EXECUTE, 0, 5, 6, 7, 8) && told(block, TUBE_TOLD_BLOCK, 2, 0, 0, 0, 0) && memcmp(own, "\x0D\x9B\7\x08", 4) == 0 && kept(&two, 0, 4)
+                 && same_link(escape.link, link) && same_link(event.link, link) && same_link(address.link, link) && same_link(execute.link, link) && same_link(block.link, link);
+    }
+    expect("tube_link_step: actions inside a transfer leave it open", inside && kept(&one, 0, 0));
+}
+
+static void calls_inside_transfers(void) {
+    const TubeLink fresh = tube_link();
+    const uint8_t load[7] = {0x9B, 0xE0, 0x00, 0x00, 0x19, 0x00, 0x41}, rest[5] = {0x42, 0x9B, 0xB0, 0x80, 0x41};
+    int begun = 1, denied = 1;
+    for (size_t at = 0; at <= 7; at++) {
+        /* A call begun at any place of a load: the bytes go on into the load, and the reply comes behind its end. */
+        uint8_t *reply = lend(&one), *own = lend(&two);
+        const TubeLink link = stepped(fresh, load, at, reply, own).link;
+        TubeBegun complete = tube_begin(link, TUBE_OSWORD, 0), b = tube_begin(link, TUBE_OSBGET, 0), again = tube_begin(b.link, TUBE_OSWORD, 0), other = tube_begin(b.link, TUBE_NO_CALL, 0);
+        TubeLink waits = link;
+        waits.wait = 1 + TUBE_OSBGET;
+        begun = begun && b.kind == TUBE_BEGUN && b.answer == 0 && same_link(b.link, waits) && complete.kind == TUBE_COMPLETE && complete.answer == 0 && same_link(complete.link, link);
+        denied = denied && again.kind == TUBE_DENIED && again.answer == TUBE_CALL_WAITS && same_link(again.link, waits)
+                 && other.kind == TUBE_DENIED && other.answer == TUBE_CALL_WAITS && same_link(other.link, waits);
+        TubeTold opened = stepped(b.link, load + at, 7 - at, reply, own), byte = tube_link_step(opened.link, rest[0], reply, own);
+        TubeTold end = last_of(byte.link, rest + 1, 2, reply, own), whole = last_of(end.link, rest + 3, 2, reply, own);
+        begun = begun && (at == 7 || told(opened, TUBE_TOLD_DATA, 0, 0x41, 0, 0, 0)) && opened.link.flags == TUBE_LINK_NESTED && told(byte, TUBE_TOLD_DATA, 0, 0x42, 0, 0, 0)
+                && told(end, TUBE_TOLD_END, 0, TUBE_LOAD, 0, 0, 0) && told(whole, TUBE_TOLD_REPLY, 2, 0, 0, 0, 0) && same_link(whole.link, fresh)
+                && reply[0] == 0x80 && reply[1] == 0x41 && kept(&one, 0, 2) && kept(&two, 0, 4);
+    }
+    expect("tube_begin: inside a load and its address", begun);
+    expect("tube_begin: another waits inside a load and its address", denied);
+}
+
+static int ran(TubeRan r, uint8_t kind, size_t length, uint8_t first, size_t used, size_t noted, size_t stored) {
+    return told(r.told, kind, length, first, 0, 0, 0) && r.used == used && r.noted == noted && r.stored == stored;
+}
+
+/* A longer buffer: for a link that says that its open action has any number of bytes, and for many notes. */
+static uint8_t wide[UINT16_MAX + AREA];
+
+static int wide_kept(size_t length) {
+    for (size_t i = 0; i < length; i++)
+        if (wide[i] != FILL)
+            return 0;
+    return 1;
 }
 
 static void runs(void) {
     const TubeLink fresh = tube_link(), waits = tube_begin(fresh, TUBE_OSBGET, 7).link;
     /* The reply to OSBGET with the Escape state inside it, and a byte behind it that stays for the next call. */
     const uint8_t mixed[5] = {0x80, 0x9B, 0x81, 0x41, 'Z'}, note[TUBE_NOTE] = {TUBE_TOLD_ESCAPE, 1, 0, 0, 0};
-    uint8_t *reply = lend(&one), *own = lend(&two), *room = lend(&three);
-    TubeRan whole = tube_run(waits, mixed, 5, reply, own, room, 5 * TUBE_NOTE);
-    expect("tube_run: a reply with an action inside it, room just long enough", ran(whole, TUBE_TOLD_REPLY, 2, 0, 4, 1) && same_link(whole.told.link, fresh)
+    uint8_t *reply = lend(&one), *own = lend(&two), *room = lend(&three), *data = lend(&spare);
+    TubeRan whole = tube_run(waits, mixed, 5, reply, own, room, 5 * TUBE_NOTE, data, 5);
+    expect("tube_run: a reply with an action inside it, room just long enough", ran(whole, TUBE_TOLD_REPLY, 2, 0, 4, 1, 0) && same_link(whole.told.link, fresh)
                                                                                     && memcmp(room, note, TUBE_NOTE) == 0 && kept(&three, 0, TUBE_NOTE)
-                                                                                    && reply[0] == 0x80 && reply[1] == 0x41 && kept(&one, 0, 2) && kept(&two, 0, 0));
+                                                                                    && reply[0] == 0x80 && reply[1] == 0x41 && kept(&one, 0, 2) && kept(&two, 0, 0) && kept(&spare, 0, 0));
     reply = lend(&one), room = lend(&three);
-    TubeRan tight = tube_run(waits, mixed, 5, reply, own, room, 5 * TUBE_NOTE - 1), no_room = tube_run(waits, mixed, 1, reply, own, room, 0);
-    expect("tube_run: room one byte short", ran(tight, TUBE_TOLD_REFUSED, 0, TUBE_BUFFER_SHORT, 0, 0) && same_link(tight.told.link, waits)
-                                                && ran(no_room, TUBE_TOLD_REFUSED, 0, TUBE_BUFFER_SHORT, 0, 0) && kept(&one, 0, 0) && kept(&three, 0, 0));
-    TubeRan none = tube_run(waits, mixed, 0, reply, own, room, 0), rest = tube_run(fresh, mixed + 4, 1, reply, own, room, TUBE_NOTE);
-    expect("tube_run: an empty slice, one that ends first", ran(none, TUBE_TOLD_MORE, 0, 0, 0, 0) && same_link(none.told.link, waits) && ran(rest, TUBE_TOLD_MORE, 0, 0, 1, 1)
+    TubeRan tight = tube_run(waits, mixed, 5, reply, own, room, 5 * TUBE_NOTE - 1, data, AREA), no_room = tube_run(waits, mixed, 1, reply, own, room, 0, data, AREA);
+    expect("tube_run: room one byte short", ran(tight, TUBE_TOLD_REFUSED, 0, TUBE_BUFFER_SHORT, 0, 0, 0) && same_link(tight.told.link, waits)
+                                                && ran(no_room, TUBE_TOLD_REFUSED, 0, TUBE_BUFFER_SHORT, 0, 0, 0) && same_link(no_room.told.link, waits)
+                                                && kept(&one, 0, 0) && kept(&three, 0, 0) && kept(&spare, 0, 0));
+    tight = tube_run(waits, mixed, 5, reply, own, room, AREA, data, 4), no_room = tube_run(waits, mixed, 1, reply, own, room, AREA, data, 0);
+    expect("tube_run: data one byte short", ran(tight, TUBE_TOLD_REFUSED, 0, TUBE_BUFFER_SHORT, 0, 0, 0) && same_link(tight.told.link, waits)
+                                                && ran(no_room, TUBE_TOLD_REFUSED, 0, TUBE_BUFFER_SHORT, 0, 0, 0) && same_link(no_room.told.link, waits)
+                                                && kept(&one, 0, 0) && kept(&three, 0, 0) && kept(&spare, 0, 0));
+    TubeRan none = tube_run(waits, mixed, 0, reply, own, room, 0, data, 0), rest = tube_run(fresh, mixed + 4, 1, reply, own, room, TUBE_NOTE, data, 1);
+    expect("tube_run: an empty slice, one that ends first", ran(none, TUBE_TOLD_MORE, 0, 0, 0, 0, 0) && same_link(none.told.link, waits) && ran(rest, TUBE_TOLD_MORE, 0, 0, 1, 1, 0)
                                                                 && room[0] == TUBE_TOLD_CHARACTER && room[1] == 'Z' && room[2] == 0 && kept(&three, 0, TUBE_NOTE));
-    const uint8_t error[7] = {0x9B, 0x00, 17, 'N', 'o', 0, 'Z'}, restart[4] = {0x9B, 0, 0, 0}, bad[3] = {'Y', 0x9B, 0x01};
+    const uint8_t error[7] = {0x9B, 0x00, 17, 'N', 'o', 0, 'Z'}, restart[4] = {0x9B, 0, 0, 0}, bad[3] = {'Y', 0x9B, 0xA1};
     room = lend(&three);
-    TubeRan failing = tube_run(waits, error, 7, reply, own, room, AREA), again = tube_run(waits, restart, 4, reply, own, room, AREA);
-    int ends = ran(failing, TUBE_TOLD_ERROR, 2, 17, 6, 0) && ran(again, TUBE_TOLD_RESTART, 0, 0, 4, 0) && kept(&three, 0, 0);
-    TubeRan refused = tube_run(fresh, bad, 3, reply, own, room, AREA);
-    expect("tube_run: an error, a restart and a refusal end it", ends && ran(refused, TUBE_TOLD_REFUSED, 0, TUBE_UNKNOWN_CODE, 3, 1) && kept(&three, 0, TUBE_NOTE));
+    TubeRan failing = tube_run(waits, error, 7, reply, own, room, AREA, data, AREA), again = tube_run(waits, restart, 4, reply, own, room, AREA, data, AREA);
+    int ends = ran(failing, TUBE_TOLD_ERROR, 2, 17, 6, 0, 0) && ran(again, TUBE_TOLD_RESTART, 0, 0, 4, 0, 0) && kept(&three, 0, 0);
+    TubeRan refused = tube_run(fresh, bad, 3, reply, own, room, AREA, data, AREA);
+    expect("tube_run: an error, a restart and a refusal end it", ends && ran(refused, TUBE_TOLD_REFUSED, 0, TUBE_UNKNOWN_CODE, 3, 1, 0) && kept(&three, 0, TUBE_NOTE) && kept(&spare, 0, 0));
 
     int given = 1;
     reply = lend(&one), own = lend(&two), room = lend(&three);
+    memset(wide, FILL, sizeof wide);
     for (int i = 0; i < ODD_LINKS; i++) {
-        TubeRan byte = tube_run(odd_link(i), mixed, 5, reply, own, room, AREA), empty = tube_run(odd_link(i), mixed, 0, reply, own, room, 0);
-        TubeRan shorter = tube_run(odd_link(i), mixed, 1, reply, own, room, TUBE_NOTE - 1);
-        given = given && ran(byte, TUBE_TOLD_REFUSED, 0, TUBE_STOPPED, 1, 0) && same_link(byte.told.link, odd_link(i)) && ran(empty, TUBE_TOLD_MORE, 0, 0, 0, 0)
-                && same_link(empty.told.link, odd_link(i)) && ran(shorter, TUBE_TOLD_REFUSED, 0, TUBE_BUFFER_SHORT, 0, 0) && same_link(shorter.told.link, odd_link(i));
+        const TubeLink odd = odd_link(i);
+        TubeRan byte = tube_run(odd, mixed, 5, reply, own, room, AREA, wide, 5u + odd.held), empty = tube_run(odd, mixed, 0, reply, own, room, 0, wide, odd.held);
+        TubeRan shorter = tube_run(odd, mixed, 1, reply, own, room, TUBE_NOTE - 1, wide, sizeof wide), less = tube_run(odd, mixed, 1, reply, own, room, AREA, wide, odd.held);
+        given = given && ran(byte, TUBE_TOLD_REFUSED, 0, TUBE_STOPPED, 1, 0, 0) && same_link(byte.told.link, odd) && ran(empty, TUBE_TOLD_MORE, 0, 0, 0, 0, 0)
+                && same_link(empty.told.link, odd) && ran(shorter, TUBE_TOLD_REFUSED, 0, TUBE_BUFFER_SHORT, 0, 0, 0) && same_link(shorter.told.link, odd)
+                && ran(less, TUBE_TOLD_REFUSED, 0, TUBE_BUFFER_SHORT, 0, 0, 0) && same_link(less.told.link, odd);
     }
-    expect("tube_run: a stopped link and one beyond its limits", given && kept(&one, 0, 0) && kept(&two, 0, 0) && kept(&three, 0, 0));
+    expect("tube_run: a stopped link and one beyond its limits", given && kept(&one, 0, 0) && kept(&two, 0, 0) && kept(&three, 0, 0) && wide_kept(sizeof wide));
+}
+
+static void transfers_run(void) {
+    const TubeLink fresh = tube_link(), waits = tube_begin(fresh, TUBE_OSBGET, 0).link;
+
+    /* The reply to OSBGET with a load of two bytes inside it: three notes, two bytes of data. */
+    const uint8_t load[12] = {0x80, 0x9B, 0xE0, 0x00, 0x00, 0x19, 0x00, 0x41, 0x42, 0x9B, 0xB0, 0x41};
+    const uint8_t notes[15] = {0x0B, 0x00, 0x00, 0x19, 0x00, 0x0D, 0x02, 0x00, 0x00, 0x00, 0x0E, 0x00, 0x00, 0x00, 0x00};
+    uint8_t *reply = lend(&one), *own = lend(&two), *room = lend(&three), *data = lend(&spare);
+    TubeRan whole = tube_run(waits, load, 12, reply, own, room, 60, data, 12);
+    expect("tube_run: a load inside a reply, room and data just long enough", ran(whole, TUBE_TOLD_REPLY, 2, 0, 12, 3, 2) && same_link(whole.told.link, fresh)
+                                                                                  && memcmp(room, notes, 15) == 0 && kept(&three, 0, 15) && memcmp(data, "AB", 2) == 0 && kept(&spare, 0, 2)
+                                                                                  && reply[0] == 0x80 && reply[1] == 0x41 && kept(&one, 0, 2) && kept(&two, 0, 4));
+    reply = lend(&one), own = lend(&two), room = lend(&three), data = lend(&spare);
+    TubeRan shorter = tube_run(waits, load, 12, reply, own, room, 59, data, 12), less = tube_run(waits, load, 12, reply, own, room, 60, data, 11);
+    expect("tube_run: a load inside a reply, room or data one byte short", ran(shorter, TUBE_TOLD_REFUSED, 0, TUBE_BUFFER_SHORT, 0, 0, 0) && same_link(shorter.told.link, waits)
+                                                                               && ran(less, TUBE_TOLD_REFUSED, 0, TUBE_BUFFER_SHORT, 0, 0, 0) && same_link(less.told.link, waits)
+                                                                               && kept(&one, 0, 0) && kept(&two, 0, 0) && kept(&three, 0, 0) && kept(&spare, 0, 0));
+
+    /* The same cut in two at every place: together the slices give the same, but for two notes of data where the cut lies between its bytes. */
+    int cut = 1;
+    for (size_t at = 0; at <= 12; at++) {
+        reply = lend(&one), own = lend(&two), room = lend(&three), data = lend(&spare);
+        TubeRan first = tube_run(waits, load, at, reply, own, room, TUBE_NOTE * at, data, at);
+        if (at == 12) {
+            cut = cut && ran(first, TUBE_TOLD_REPLY, 2, 0, 12, 3, 2);
+            break;
+        }
+        const TubeLink link = first.told.link;
+        cut = cut && ran(first, TUBE_TOLD_MORE, 0, 0, at, at < 7 ? 0 : at < 8 ? 1 : at < 11 ? 2 : 3, at < 8 ? 0 : at < 9 ? 1 : 2);
+        TubeRan second = tube_run(link, load + at, 12 - at, reply, own, room + TUBE_NOTE * first.noted, TUBE_NOTE * (12 - at), data + first.stored, 12 - at + link.held);
+        cut = cut && ran(second, TUBE_TOLD_REPLY, 2, 0, 12 - at, (at == 8 ? 4 : 3) - first.noted, 2 - first.stored) && memcmp(data, "AB", 2) == 0 && kept(&spare, 0, 2)
+              && kept(&three, 0, at == 8 ? 20 : 15) && reply[0] == 0x80 && reply[1] == 0x41 && kept(&one, 0, 2);
+        if (at != 8)
+            cut = cut && memcmp(room, notes, 15) == 0;
+        else
+            cut = cut && memcmp(room, "\x0B\0\0\x19\0\x0D\1\0\0\0\x0D\1\0\0\0\x0E\0\0\0\0", 20) == 0;
+    }
+    expect("tube_run: a load inside a reply, cut at every place", cut);
+
+    /* Load data of any length: a note for every 255 bytes and one for the rest; every byte there is, doubled where it is the escape. */
+    TubeLink loading = waits;
+    loading.flags = TUBE_LINK_NESTED;
+    int long_data = 1;
+    for (size_t length = 1; length <= 800; length++) {
+        static uint8_t raw[2 * 800 + 2], bytes[800];
+        size_t at = 0;
+        for (size_t i = 0; i < length; i++) {
+            raw[at++] = bytes[i] = (uint8_t)(i + 0x0D);
+            if (bytes[i] == TUBE_ESCAPE_BYTE)
+                raw[at++] = TUBE_ESCAPE_BYTE;
+        }
+        raw[at++] = TUBE_ESCAPE_BYTE, raw[at++] = 0xB0;
+        memset(wide, FILL, TUBE_NOTE * at);
+        reply = lend(&one), own = lend(&two), data = lend(&spare);
+        TubeRan r = tube_run(loading, raw, at, reply, own, wide, TUBE_NOTE * at, data, at);
+        const size_t some = (length + 254) / 255;
+        long_data = long_data && ran(r, TUBE_TOLD_MORE, 0, 0, at, some + 1, length) && same_link(r.told.link, waits) && memcmp(data, bytes, length) == 0 && kept(&spare, 0, length)
+                    && kept(&one, 0, 0) && kept(&two, 0, 0);
+        for (size_t i = 0; i < some; i++) {
+            const uint8_t note[TUBE_NOTE] = {TUBE_TOLD_DATA, (uint8_t)(i + 1 < some ? 255 : length - 255 * i), 0, 0, 0};
+            long_data = long_data && memcmp(wide + TUBE_NOTE * i, note, TUBE_NOTE) == 0;
+            memset(wide + TUBE_NOTE * i, FILL, TUBE_NOTE);
+        }
+        long_data = long_data && memcmp(wide + TUBE_NOTE * some, "\x0E\0\0\0\0", TUBE_NOTE) == 0;
+        memset(wide + TUBE_NOTE * some, FILL, TUBE_NOTE);
+        long_data = long_data && wide_kept(TUBE_NOTE * at);
+    }
+    expect("tube_run: load data over 255 bytes in notes of 255", long_data);
+
+    /* What is told between load bytes has its note between theirs. */
+    const uint8_t pressed[7] = {0x41, 0x42, 0x9B, 0x81, 0x43, 0x9B, 0x9B};
+    room = lend(&three), data = lend(&spare);
+    TubeRan between = tube_run(loading, pressed, 7, reply, own, room, 35, data, 7);
+    expect("tube_run: an Escape state between load bytes", ran(between, TUBE_TOLD_MORE, 0, 0, 7, 3, 4) && same_link(between.told.link, loading)
+                                                               && memcmp(room, "\x0D\2\0\0\0\2\1\0\0\0\x0D\2\0\0\0", 15) == 0 && kept(&three, 0, 15)
+                                                               && memcmp(data, "ABC\x9B", 4) == 0 && kept(&spare, 0, 4) && kept(&one, 0, 0) && kept(&two, 0, 0));
+
+    /* A control block of which some bytes came before the slice: they count in the data, and all of it goes there. */
+    int begun = 1;
+    for (uint8_t held = 0; held < 127; held++) {
+        static uint8_t rest[127];
+        reply = lend(&one), own = lend(&two), room = lend(&three), data = lend(&spare);
+        memcpy(own, letters, held);
+        memcpy(rest, letters + held, 127u - held);
+        TubeLink link = waits;
+        link.action = TUBE_IN_BLOCK + 127, link.held = held;
+        const size_t left = 127u - held;
+        TubeRan tight = tube_run(link, rest, left, reply, own, room, TUBE_NOTE * left, data, 126);
+        begun = begun && ran(tight, TUBE_TOLD_REFUSED, 0, TUBE_BUFFER_SHORT, 0, 0, 0) && same_link(tight.told.link, link) && kept(&two, 0, held) && kept(&three, 0, 0) && kept(&spare, 0, 0);
+        TubeRan r = tube_run(link, rest, left, reply, own, room, TUBE_NOTE * left, data, 127);
+        begun = begun && ran(r, TUBE_TOLD_MORE, 0, 0, left, 1, 127) && same_link(r.told.link, waits) && memcmp(room, "\x09\x7F\0\0\0", TUBE_NOTE) == 0 && kept(&three, 0, TUBE_NOTE)
+                && memcmp(data, letters, 127) == 0 && kept(&spare, 0, 127) && memcmp(own, letters, 127) == 0 && kept(&two, 0, 127) && kept(&one, 0, 0);
+    }
+    expect("tube_run: a control block begun before the slice, data just long enough and one byte short", begun);
+
+    /* The bytes of any open action count, also of one that gives no data, and also where the slice is empty. */
+    TubeLink event = waits;
+    event.action = TUBE_IN_EVENT, event.held = 2;
+    own = lend(&two), room = lend(&three), data = lend(&spare);
+    own[0] = 7, own[1] = 8;
+    TubeRan no_byte = tube_run(event, load, 0, reply, own, room, 0, data, 2), too_few = tube_run(event, load, 0, reply, own, room, 0, data, 1);
+    TubeRan third = tube_run(event, load, 1, reply, own, room, TUBE_NOTE, data, 3), two_bytes = tube_run(event, load, 1, reply, own, room, TUBE_NOTE, data, 2);
+    expect("tube_run: the bytes of an open event count in the data", ran(no_byte, TUBE_TOLD_MORE, 0, 0, 0, 0, 0) && same_link(no_byte.told.link, event)
+                                                                         && ran(too_few, TUBE_TOLD_REFUSED, 0, TUBE_BUFFER_SHORT, 0, 0, 0) && same_link(too_few.told.link, event)
+                                                                         && ran(third, TUBE_TOLD_MORE, 0, 0, 1, 1, 0) && same_link(third.told.link, waits)
+                                                                         && memcmp(room, "\3\7\x08\x80\0", TUBE_NOTE) == 0 && kept(&three, 0, TUBE_NOTE) && kept(&spare, 0, 0)
+                                                                         && ran(two_bytes, TUBE_TOLD_REFUSED, 0, TUBE_BUFFER_SHORT, 0, 0, 0) && same_link(two_bytes.told.link, event));
+
+    /* An error inside a save inside a load closes both and ends the call: the byte behind it is a character. */
+    const uint8_t failing[21] = {0x80, 0x9B, 0xE0, 0x00, 0x00, 0x19, 0x00, 0x41, 0x9B, 0xF0, 0x00, 0x00, 0x80, 0x00, 0x9B, 0x00, 0xFE, 'N', 'o', 0x00, 0x41};
+    reply = lend(&one), own = lend(&two), room = lend(&three), data = lend(&spare);
+    TubeRan error = tube_run(waits, failing, 21, reply, own, room, 105, data, 21);
+    int closed = ran(error, TUBE_TOLD_ERROR, 2, 0xFE, 20, 3, 1) && same_link(error.told.link, fresh) && memcmp(room, "\x0B\0\0\x19\0\x0D\1\0\0\0\x0C\0\0\x80\0", 15) == 0
+                 && kept(&three, 0, 15) && data[0] == 0x41 && kept(&spare, 0, 1) && memcmp(own, "\xFENo", 4) == 0 && kept(&one, 0, 1) && kept(&two, 0, 4);
+    TubeRan behind = tube_run(error.told.link, failing + 20, 1, reply, own, room, TUBE_NOTE, data, 1);
+    expect("tube_run: an error inside transfers, and a character behind it", closed && ran(behind, TUBE_TOLD_MORE, 0, 0, 1, 1, 0) && memcmp(room, "\1\x41\0\0\0", TUBE_NOTE) == 0);
+
+    /* Idle: a load, its data, its end, and then a character. */
+    const uint8_t idle[10] = {0x9B, 0xE0, 0x00, 0x00, 0x19, 0x00, 0x41, 0x9B, 0xB0, 0x41};
+    reply = lend(&one), own = lend(&two), room = lend(&three), data = lend(&spare);
+    TubeRan alone = tube_run(fresh, idle, 10, reply, own, room, 50, data, 10);
+    expect("tube_run: a load while idle, and a character behind it", ran(alone, TUBE_TOLD_MORE, 0, 0, 10, 4, 1) && same_link(alone.told.link, fresh)
+                                                                         && memcmp(room, "\x0B\0\0\x19\0\x0D\1\0\0\0\x0E\0\0\0\0\1\x41\0\0\0", 20) == 0 && kept(&three, 0, 20)
+                                                                         && data[0] == 0x41 && kept(&spare, 0, 1) && kept(&one, 0, 0));
+}
+
+/* ---- Recorded replies ---- */
+
+/* Bytes in hexadecimal. A word stands for those of a whole action or note, and 55*127 for a byte 127 times over. */
+static size_t bytes_of(const char *text, uint8_t *out) {
+    static const struct {
+        const char *word, *bytes;
+    } words[6] = {
+        {"ld", "9B E0 00 00 19 00"}, {"sv", "9B F0 00 00 80 00"}, /* raw bytes */
+        {"load", "0B 00 00 19 00"},  {"save", "0C 00 00 80 00"},  /* their notes */
+        {"loaded", "0E 00 00 00 00"}, {"saved", "0E 01 00 00 00"}, /* and those of their ends */
+    };
+    size_t length = 0;
+    for (text += strspn(text, " "); *text != 0; text += strspn(text, " ")) {
+        const size_t width = strcspn(text, " ");
+        const char *bytes = NULL;
+        for (int i = 0; i < 6; i++)
+            if (strlen(words[i].word) == width && memcmp(words[i].word, text, width) == 0)
+                bytes = words[i].bytes;
+        if (bytes != NULL)
+            length += bytes_of(bytes, out + length);
+        else {
+            char *end;
+            const unsigned long byte = strtoul(text, &end, 16), times = *end == '*' ? strtoul(end + 1, NULL, 10) : 1;
+            memset(out + length, (int)byte, times);
+            length += times;
+        }
+        text += width;
+    }
+    return length;
+}
+
+/* A call, the raw bytes behind it, and what they give: notes, data, the bytes used, the outcome with its number and length, the bytes of `out`. */
+typedef struct {
+    const char *name;
+    uint8_t call, out_length;
+    const char *raw, *notes, *data;
+    size_t used;
+    uint32_t kind, number;
+    size_t length;
+    const char *out;
+} Recording;
+
+static const Recording recorded[] = {
+    {"a load inside a reply", TUBE_OSBGET, 0, "80 ld 41 42 9B B0 41", "load 0D 02 00 00 00 loaded", "41 42", 12, TUBE_TOLD_REPLY, 0, 2, "80 41"},
+    {"low bits of marks, an execute", TUBE_OSBGET, 0, "9B EF 00 00 19 00 9B BF 9B D7 00 00 80 00 80 41", "load loaded 0A 00 00 80 00", "", 16, TUBE_TOLD_REPLY, 0, 2, "80 41"},
+    {"escapes, returns and zeros in a load", TUBE_OSBGET, 0, "ld 9B 9B 0D 00 9B B0 00 42", "load 0D 03 00 00 00 loaded", "9B 0D 00", 14, TUBE_TOLD_REPLY, 0, 2, "00 42"},
+    {"a control block inside a load", TUBE_OSBGET, 0, "ld 41 9B 02 0D 9B 9B 42 9B B0 80 41", "load 0D 01 00 00 00 09 02 00 00 00 0D 01 00 00 00 loaded", "41 0D 9B 42", 17,
+     TUBE_TOLD_REPLY, 0, 2, "80 41"},
+    {"a load inside a save inside a load", TUBE_OSCLI, 0, "ld 01 sv ld 02 9B B0 9B 81 9B B0 03 9B B0 7F",
+     "load 0D 01 00 00 00 save load 0D 01 00 00 00 loaded 02 01 00 00 00 saved 0D 01 00 00 00 loaded", "01 02 03", 30, TUBE_TOLD_REPLY, 0, 1, "7F"},
+    {"a byte inside a save", TUBE_OSCLI, 0, "sv 41", "save", "", 7, TUBE_TOLD_REFUSED, TUBE_BAD_FIELD, 0, ""},
+    {"an escape as a byte inside a save", TUBE_OSCLI, 0, "sv 9B 9B", "save", "", 8, TUBE_TOLD_REFUSED, TUBE_BAD_FIELD, 0, ""},
+    {"a byte inside a save inside a load", TUBE_OSCLI, 0, "ld sv 41", "load save", "", 13, TUBE_TOLD_REFUSED, TUBE_BAD_FIELD, 0, ""},
+    {"a fifth transfer", TUBE_OSCLI, 0, "ld ld ld ld 9B F0", "load load load load", "", 26, TUBE_TOLD_REFUSED, TUBE_TOO_DEEP, 0, ""},
+    {"a mark that is not carried inside four transfers", TUBE_OSCLI, 0, "ld ld ld ld 9B A0", "load load load load", "", 26, TUBE_TOLD_REFUSED, TUBE_UNKNOWN_CODE, 0, ""},
+    {"four transfers, and one more behind an end", TUBE_OSCLI, 0, "ld ld ld ld 9B D0 00 00 80 00 9B B0 ld 9B B0 9B B0 9B B0 9B B0 7F",
+     "load load load load 0A 00 00 80 00 loaded load loaded loaded loaded loaded", "", 47, TUBE_TOLD_REPLY, 0, 1, "7F"},
+    {"a fifth transfer's mark inside an address", TUBE_OSCLI, 0, "ld ld ld ld 9B C0 00 9B E0", "load load load load", "", 29, TUBE_TOLD_REFUSED, TUBE_MARK_INSIDE, 0, ""},
+    {"an end with none open", TUBE_OSBGET, 0, "80 9B B0", "", "", 3, TUBE_TOLD_REFUSED, TUBE_MARK_INSIDE, 0, ""},
+    {"an end inside an address", TUBE_OSBGET, 0, "9B E0 00 00 9B B0", "", "", 6, TUBE_TOLD_REFUSED, TUBE_MARK_INSIDE, 0, ""},
+    {"an Escape state inside a control block", TUBE_OSBGET, 0, "9B 03 41 9B 81", "", "", 5, TUBE_TOLD_REFUSED, TUBE_MARK_INSIDE, 0, ""},
+    {"a mark that is not carried", TUBE_OSBGET, 0, "9B AF", "", "", 2, TUBE_TOLD_REFUSED, TUBE_UNKNOWN_CODE, 0, ""},
+    {"an error inside a save inside a load", TUBE_OSBGET, 0, "80 ld 41 sv 9B 00 FE 4E 6F 00 41", "load 0D 01 00 00 00 save", "41", 20, TUBE_TOLD_ERROR, 0xFE, 2, "FE 4E 6F"},
+    {"a restart inside a load", TUBE_OSBGET, 0, "ld 41 9B 00 00 00 80 41", "load 0D 01 00 00 00", "41", 11, TUBE_TOLD_RESTART, 0, 0, ""},
+    {"control blocks of 1 and 127 bytes", TUBE_OSCLI, 0, "9B 01 AA 9B 7F 55*127 80", "09 01 00 00 00 09 7F 00 00 00", "AA 55*127", 133, TUBE_TOLD_REPLY, 0, 1, "80"},
+    {"one that runs out inside a pair", TUBE_OSBGET, 0, "80 ld 41 9B", "load 0D 01 00 00 00", "41", 9, TUBE_TOLD_MORE, 0, 0, ""},
+    {"a return inside a load inside a line", TUBE_OSWORD0, 0, "7F 48 ld 0D 9B B0 49 0D", "load 0D 01 00 00 00 loaded", "0D", 13, TUBE_TOLD_REPLY, 0, 4, "7F 48 49 0D"},
+    {"an OSWORD without a byte", TUBE_OSWORD, 0, "ld 41", "", "", 0, TUBE_TOLD_REPLY, 0, 0, ""},
+    {"bytes behind the reply", TUBE_OSCLI, 0, "80 9B A0", "", "", 1, TUBE_TOLD_REPLY, 0, 1, "80"},
+    /* And more of the same. */
+    {"no byte at all", TUBE_OSFILE, 0, "", "", "", 0, TUBE_TOLD_MORE, 0, 0, ""},
+    {"an OSWORD without a byte, and no byte", TUBE_OSWORD, 0, "", "", "", 0, TUBE_TOLD_REPLY, 0, 0, ""},
+    {"one that runs out inside an address", TUBE_OSBGET, 0, "9B E0 00 00 19", "", "", 5, TUBE_TOLD_MORE, 0, 0, ""},
+    {"one that runs out inside a reply", TUBE_OSARGS, 0, "01 00 9B 81 00", "02 01 00 00 00", "", 5, TUBE_TOLD_MORE, 0, 0, ""},
+    {"255 bytes of a load", TUBE_OSBPUT, 0, "ld 0D*255 9B B0 7F", "load 0D FF 00 00 00 loaded", "0D*255", 264, TUBE_TOLD_REPLY, 0, 1, "7F"},
+    {"256 bytes of a load", TUBE_OSBPUT, 0, "ld 9B*512 9B B0 7F", "load 0D FF 00 00 00 0D 01 00 00 00 loaded", "9B*256", 521, TUBE_TOLD_REPLY, 0, 1, "7F"},
+    {"700 bytes of a load, an Escape state among them", TUBE_OSBPUT, 0, "ld 41*300 9B 80 42*400 9B B0 7F",
+     "load 0D FF 00 00 00 0D 2D 00 00 00 02 00 00 00 00 0D FF 00 00 00 0D 91 00 00 00 loaded", "41*300 42*400", 711, TUBE_TOLD_REPLY, 0, 1, "7F"},
+    {"an error of 255 bytes", TUBE_OSCLI, 0, "sv 9B 00 00 78*255 00", "save", "", 265, TUBE_TOLD_ERROR, 0, 255, "00 78*255"},
+    {"an error of 256 bytes", TUBE_OSCLI, 0, "sv 9B 00 00 78*256 00", "save", "", 265, TUBE_TOLD_REFUSED, TUBE_STRING_LONG, 0, ""},
+    {"a line of 255 bytes", TUBE_OSWORD0, 0, "00 78*255 9B D0 00 00 80 00 0D", "0A 00 00 80 00", "", 263, TUBE_TOLD_REPLY, 0, 257, "00 78*255 0D"},
+    {"a line of 256 bytes", TUBE_OSWORD0, 0, "00 78*256 0D", "", "", 257, TUBE_TOLD_REFUSED, TUBE_STRING_LONG, 0, ""},
+    {"an OSWORD of 255 bytes, an event before the last", TUBE_OSWORD, 255, "9B*508 9B 90 01 02 03 9B 9B 41", "03 01 02 03 00", "", 515, TUBE_TOLD_REPLY, 0, 255, "9B*255"},
+    {"an event and an address", TUBE_OSRDCH, 0, "9B 9F 01 02 03 80 9B C1 00 01 02 9B 9B 41", "03 01 02 03 00 04 00 01 02 9B", "", 14, TUBE_TOLD_REPLY, 0, 2, "80 41"},
+};
+
+enum { RECORDINGS = sizeof recorded / sizeof recorded[0] };
+
+static int records(TubeRecorded r, uint32_t kind, uint32_t number, size_t length, size_t used, size_t noted, size_t stored) {
+    return r.kind == kind && r.number == number && r.length == length && r.used == used && r.noted == noted && r.stored == stored;
+}
+
+static void recordings(void) {
+    static uint8_t raw[1024], same[1024], notes[256], bytes[1024], ends[TUBE_REPLY_LENGTH];
+    int shorter = 1, less = 1, measured = 1, ample = 1, agreed = 1, stepwise = 1, unread = 1;
+    for (int i = 0; i < RECORDINGS; i++) {
+        const Recording *c = &recorded[i];
+        const size_t length = bytes_of(c->raw, raw), need = bytes_of(c->notes, notes), stored = bytes_of(c->data, bytes), end = bytes_of(c->out, ends), noted = need / TUBE_NOTE;
+        char name[80];
+        memcpy(same, raw, length);
+
+        /* Room and data just long enough. */
+        uint8_t *out = lend(&one), *room = lend(&two), *data = lend(&three);
+        TubeRecorded r = tube_read_recorded(c->call, c->out_length, raw, length, room, need, data, stored, out);
+        snprintf(name, sizeof name, "tube_read_recorded: %s", c->name);
+        expect(name, records(r, c->kind, c->number, c->length, c->used, noted, stored) && memcmp(room, notes, need) == 0 && kept(&two, 0, need)
+                         && memcmp(data, bytes, stored) == 0 && kept(&three, 0, stored) && memcmp(out, ends, end) == 0 && kept(&one, 0, end));
+
+        /* One byte short of either, and none of both: nothing is touched, and what is needed is said. */
+        out = lend(&one), room = lend(&two), data = lend(&three);
+        if (need > 0) {
+            r = tube_read_recorded(c->call, c->out_length, raw, length, room, need - 1, data, stored, out);
+            shorter = shorter && records(r, TUBE_TOLD_REFUSED, TUBE_BUFFER_SHORT, 0, 0, noted, stored);
+        }
+        if (stored > 0) {
+            r = tube_read_recorded(c->call, c->out_length, raw, length, room, need, data, stored - 1, out);
+            less = less && records(r, TUBE_TOLD_REFUSED, TUBE_BUFFER_SHORT, 0, 0, noted, stored);
+        }
+        if (need + stored > 0) {
+            r = tube_read_recorded(c->call, c->out_length, raw, length, room, 0, data, 0, out);
+            measured = measured && records(r, TUBE_TOLD_REFUSED, TUBE_BUFFER_SHORT, 0, 0, noted, stored);
+        }
+        const int untouched = kept(&one, 0, 0) && kept(&two, 0, 0) && kept(&three, 0, 0);
+        shorter = shorter && untouched, less = less && untouched, measured = measured && untouched;
+
+        /* More than enough: five bytes of room and one of data for each raw byte. */
+        memset(wide, FILL, TUBE_NOTE * length);
+        r = tube_read_recorded(c->call, c->out_length, raw, length, wide, TUBE_NOTE * length, data, length, out);
+        ample = ample && need <= TUBE_NOTE * length && stored <= length && records(r, c->kind, c->number, c->length, c->used, noted, stored) && memcmp(wide, notes, need) == 0
+                && memcmp(data, bytes, stored) == 0 && kept(&three, 0, stored) && memcmp(out, ends, end) == 0 && kept(&one, 0, end);
+        memset(wide, FILL, need);
+        ample = ample && wide_kept(TUBE_NOTE * length);
+
+        /* The same by tube_run over all of it, and by tube_link_step byte by byte. */
+        const TubeBegun b = tube_begin(tube_link(), c->call, c->out_length);
+        if (b.kind == TUBE_BEGUN) {
+            const int failing = c->kind == TUBE_TOLD_ERROR;
+            uint8_t *reply = lend(&one), *own = lend(&two);
+            data = lend(&three);
+            TubeRan run_all = tube_run(b.link, raw, length, reply, own, wide, TUBE_NOTE * length, data, length);
+            agreed = agreed && ran(run_all, (uint8_t)c->kind, c->length, (uint8_t)c->number, c->used, noted, stored) && memcmp(wide, notes, need) == 0
+                     && memcmp(data, bytes, stored) == 0 && kept(&three, 0, stored) && memcmp(failing ? own : reply, ends, end) == 0;
+            memset(wide, FILL, need);
+            agreed = agreed && wide_kept(TUBE_NOTE * length);
+
+            TubeTold t = {.link = b.link};
+            size_t used = 0, held = 0;
+            while (used < length && (t.kind < TUBE_TOLD_REPLY || t.kind > TUBE_TOLD_REFUSED)) {
+                t = tube_link_step(t.link, raw[used++], reply, own);
+                if (t.kind == TUBE_TOLD_DATA)
+                    stepwise = stepwise && held < stored && t.first == bytes[held++];
+                if (t.kind == TUBE_TOLD_BLOCK) {
+                    stepwise = stepwise && held + t.length <= stored && memcmp(own, bytes + held, t.length) == 0;
+                    held += t.length;
+                }
+            }
+            const int over = t.kind >= TUBE_TOLD_REPLY && t.kind <= TUBE_TOLD_REFUSED;
+            stepwise = stepwise && used == c->used && held == stored && same_link(t.link, run_all.told.link)
+                       && (c->kind == TUBE_TOLD_MORE ? !over : told(t, (uint8_t)c->kind, c->length, (uint8_t)c->number, 0, 0, 0));
+        }
+        unread = unread && memcmp(raw, same, length) == 0;
+    }
+    expect("tube_read_recorded: each with room one byte short", shorter);
+    expect("tube_read_recorded: each with data one byte short", less);
+    expect("tube_read_recorded: each with two empty buffers says what is needed", measured);
+    expect("tube_read_recorded: each with five bytes of room and one of data for a raw byte", ample);
+    expect("tube_run: each recording gives the same", agreed);
+    expect("tube_link_step: each recording gives the same", stepwise);
+    expect("tube_read_recorded, tube_run: the recording stays", unread);
+
+    /* A number that is no call, whatever the recording and the buffers. */
+    int no_call = 1;
+    uint8_t *out = lend(&one), *room = lend(&two), *data = lend(&three);
+    const size_t length = bytes_of(recorded[0].raw, raw);
+    for (int call = TUBE_CALLS; call < 256; call++)
+        no_call = no_call && records(tube_read_recorded((uint8_t)call, 255, raw, length, room, AREA, data, AREA, out), TUBE_TOLD_REFUSED, TUBE_UNKNOWN_CODE, 0, 0, 0, 0)
+                  && records(tube_read_recorded((uint8_t)call, 0, raw, length, room, 0, data, 0, out), TUBE_TOLD_REFUSED, TUBE_UNKNOWN_CODE, 0, 0, 0, 0)
+                  && records(tube_read_recorded((uint8_t)call, 0, raw, 0, room, 0, data, 0, out), TUBE_TOLD_REFUSED, TUBE_UNKNOWN_CODE, 0, 0, 0, 0);
+    expect("tube_read_recorded: no such call", no_call && kept(&one, 0, 0) && kept(&two, 0, 0) && kept(&three, 0, 0));
+
+    /* The longest reply to every call with an execute before each of its bytes, and the same without its last byte. */
+    int calls = 1;
+    static const uint16_t longest[TUBE_CALLS] = {2, 1, 1, 3, 255, TUBE_REPLY_LENGTH, 5, 2, 1, 1, 1, 17, 15};
+    static uint8_t many[7 * TUBE_REPLY_LENGTH];
+    for (int call = 0; call < TUBE_CALLS; call++) {
+        size_t at = 0;
+        for (uint16_t i = 0; i < longest[call]; i++) {
+            at += bytes_of("9B D0 01 02 03 04", many + at);
+            ends[i] = many[at++] = call == TUBE_OSWORD0 && i + 1 == TUBE_REPLY_LENGTH ? 0x0D : 'x';
+        }
+        const size_t noted_all = longest[call], need = TUBE_NOTE * noted_all;
+        out = lend(&one), room = lend(&two), data = lend(&three);
+        TubeRecorded cut = tube_read_recorded((uint8_t)call, 255, many, at - 1, room, need, data, 0, out);
+        calls = calls && records(cut, TUBE_TOLD_MORE, 0, 0, at - 1, noted_all, 0) && kept(&one, 0, 0) && kept(&two, 0, need);
+        TubeRecorded whole = tube_read_recorded((uint8_t)call, 255, many, at, room, need, data, 0, out);
+        calls = calls && records(whole, TUBE_TOLD_REPLY, 0, longest[call], at, noted_all, 0) && memcmp(out, ends, longest[call]) == 0 && kept(&one, 0, longest[call])
+                && kept(&two, 0, need) && kept(&three, 0, 0);
+    }
+    expect("tube_read_recorded: each call's longest reply, and without its last byte", calls);
 }
 
 /* ---- Replies ---- */
@@ -736,10 +1331,10 @@ static void replies_written(void) {
     expect("tube_write_reply: no byte into an empty buffer", none.answer == TUBE_DONE && none.length == 0 && nothing.answer == TUBE_DONE && nothing.length == 0 && kept(&one, 0, 0));
     TubeWritten most = tube_write_reply(TUBE_SERIAL, TUBE_OSWORD, 255, TUBE_REPLY_BLOCK, 0, 0, 0, 0, escapes, 255, letters, 0, out, 510);
     TubeLink word = tube_begin(tube_link(), TUBE_OSWORD, 255).link;
-    TubeRan back = tube_run(word, out, 510, lend(&two), three.area + GUARD, lend(&three) + TUBE_OWN_LENGTH, 510 * TUBE_NOTE);
+    TubeRan back = tube_run(word, out, 510, lend(&two), three.area + GUARD, lend(&three) + TUBE_OWN_LENGTH, 510 * TUBE_NOTE, lend(&spare), 510);
     expect("tube_write_reply: 255 bytes that are all doubled, and read again", most.answer == TUBE_DONE && most.length == 510 && kept(&one, 0, 510)
-                                                                                  && ran(back, TUBE_TOLD_REPLY, 255, 0, 510, 0) && memcmp(two.area + GUARD, escapes, 255) == 0
-                                                                                  && kept(&two, 0, 255) && kept(&three, 0, 0));
+                                                                                  && ran(back, TUBE_TOLD_REPLY, 255, 0, 510, 0, 0) && memcmp(two.area + GUARD, escapes, 255) == 0
+                                                                                  && kept(&two, 0, 255) && kept(&three, 0, 0) && kept(&spare, 0, 0));
     out = lend(&one);
     uint8_t ended_line[2] = {'A', 0x0D};
     int refused = refuses(tube_write_reply(TUBE_SERIAL, TUBE_OSWORD0, 0, TUBE_REPLY_READ_LINE, 0, 0, 0, 0, letters, 0, ended_line, 2, out, AREA), TUBE_BAD_FIELD)
@@ -891,7 +1486,12 @@ int main(void) {
     requests_read();
     calls_begun();
     steps();
+    transfers_open();
+    transfers_closed();
+    calls_inside_transfers();
     runs();
+    transfers_run();
+    recordings();
     replies_written();
     replies_read();
     replies_taken();

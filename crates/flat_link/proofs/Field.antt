@@ -12,11 +12,11 @@ use Rattle.serial_rules.specs.Reply.{shapeOf, shapeTurn, longest}
 use Rattle.turns.specs.declared.Turn as code
 use Rattle.turns.specs.declared.Turn.the-variants as code-turns
 use Rattle.turns.specs.Turns.{turnOf}
-use Rattle.shapes.specs.declared.Shape.{Shape as Found}
 use Rattle.shapes.specs.Shapes.{shapeFor}
 use Rattle.kind.specs.Kinds.{kindFor}
 use Rattle.kind.specs.declared.CallKind.{CallKind}
 use Rattle.kind.specs.Kinds.{replyLent}
+use Rattle.shapes.specs.declared.Shape.{Shape as Found}
 use Rattle.link.proofs.Steps.{at-data, data-outside, reply-more, reply-ended}
 use Rattle.link_loop.proofs.Plains.{mid, mid-usable}
 use Rattle.flat_kind.specs.Kinds.{kindAt}
@@ -82,7 +82,7 @@ module _ {f : FlatLink} {x : ℕ} (h : Reply-byte f x) where
         let l = mid kind (f .got) in
         let t = limited (f .got) (longest (shapeIn f)) (shapeTurn (shapeIn f) (f .got) x) more not-more e in
         step-known in-range (sym middle)
-        (at-data l reply own x (mid-usable kind (f .got) (t .0)) (rw (h .not-escape)) (data-outside l reply own x refl (reply-more l reply x refl room (t .1) refl)))
+        (at-data l reply own x (mid-usable kind (f .got) (t .0)) (rw (h .not-escape)) (data-outside l reply own x refl (reply-more l reply x refl refl room (t .1) refl)))
         (p ∙ next-is) q
 
     pub reply-ends : turnIn f x ≡ done → g ≡ placedIdle f → r ≡ toldWith g 5 0 (f .got + 1) → Flat-step-done f reply own x r (set reply (f .got) x) own
@@ -90,5 +90,5 @@ module _ {f : FlatLink} {x : ℕ} (h : Reply-byte f x) where
         let l = mid kind (f .got) in
         let t = limited (f .got) (longest (shapeIn f)) (shapeTurn (shapeIn f) (f .got) x) done not-done e in
         step-known in-range (sym middle)
-        (at-data l reply own x (mid-usable kind (f .got) (t .0)) (rw (h .not-escape)) (data-outside l reply own x refl (reply-ended l reply x refl room (t .1) refl)))
+        (at-data l reply own x (mid-usable kind (f .got) (t .0)) (rw (h .not-escape)) (data-outside l reply own x refl (reply-ended l reply x refl refl room (t .1) refl)))
         p q

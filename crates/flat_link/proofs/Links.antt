@@ -43,17 +43,17 @@ module _ {f : FlatLink} {reply own : List ℕ} {x : ℕ} {r : FlatTold} where
   step-unknown out q = record { known = λ ok. absurd (not-both ok out); unknown = λ _. (q, refl, refl) }
 
 -- the loop, by whether the numbers are in range
-module _ {f : FlatLink} {reply own raw room : List ℕ} {r : FlatRan} where
-  pub ran-known : {l : Link} {o : Ran} {reply-left own-left room-left : List ℕ} → tagsOk f ≡ true → l ≡ linkOf f
-      → Run-done l reply own raw room o reply-left own-left room-left → r ≡ flatRan f o → Flat-run-done f reply own raw room r reply-left own-left room-left
-  ran-known {l} {o} {reply-left} {own-left} {room-left} ok u d e =
+module _ {f : FlatLink} {reply own raw room content : List ℕ} {r : FlatRan} where
+  pub ran-known : {l : Link} {o : Ran} {reply-left own-left room-left content-left : List ℕ} → tagsOk f ≡ true → l ≡ linkOf f
+      → Run-done l reply own raw room content o reply-left own-left room-left content-left → r ≡ flatRan f o → Flat-run-done f reply own raw room content r reply-left own-left room-left content-left
+  ran-known {l} {o} {reply-left} {own-left} {room-left} {content-left} ok u d e =
       record {
-        known = λ _. record { ran = o; done = subst (λ (q : Link). Run-done q reply own raw room o reply-left own-left room-left) u d; is = e };
+        known = λ _. record { ran = o; done = subst (λ (q : Link). Run-done q reply own raw room content o reply-left own-left room-left content-left) u d; is = e };
         unknown = λ out. absurd (not-both ok out);
       }
 
-  pub ran-unknown : tagsOk f ≡ false → r ≡ flatUnknown f (length raw) (length room) → Flat-run-done f reply own raw room r reply own room
-  ran-unknown out e = record { known = λ ok. absurd (not-both ok out); unknown = λ _. (e, refl, refl, refl) }
+  pub ran-unknown : tagsOk f ≡ false → r ≡ flatUnknown f (length raw) (length room) (length content) → Flat-run-done f reply own raw room content r reply own room content
+  ran-unknown out e = record { known = λ ok. absurd (not-both ok out); unknown = λ _. (e, refl, refl, refl, refl) }
 
 -- the record of a begun call's flat result
 begun-link : (f : FlatLink) (b : rules.Begun) → flatBegun f b .link ≡ f

@@ -9,10 +9,11 @@ ghost use Rattle.flat_link.specs.Runs.{flatRan, flatUnknown, ranWith, Fl
 ghost use Rattle.flat_link.specs.Field.{Reply-byte, turnIn, placedNext, placedIdle};
 ghost use Rattle.serial_rules.specs.Body.{refused};
 ghost use Rattle.turns.specs.Turns.{turnOf};
+use actions::Action;
+use actions::Target;
 use escape::Piece;
 use flat_kind::FlatKind;
 use kind::CallKind;
-use link::Action;
 use link::Answer;
 use link::Begun;
 use link::Doing;
@@ -24,8 +25,9 @@ use turns::Turn;
 
 // A link. `got` bytes of the reply and `held` bytes of the open action came so far. `wait` is 0 where the link is idle, else one more than the
 // number of the call that waits, OSWORD with its `out_length`; `action` is 0 where none is open, 1 for an error, 2 for an event, 3 for an
-// address; `flags` is 1 where an escape was seen, 2 where the link is stopped, 3 where both are. A record with `wait` above 13, or `action` or
-// `flags` above 3, counts as stopped. It has eight bytes, so that it crosses to C in one register.
+// address, 4 for execute, 5 for a load, 6 for a save, 128 + n for a control block of n bytes; `flags` is a sum: 1 where an escape was seen, 2 where
+// the link is stopped, and 4 times the number of the open transfers. A record with `wait` above 13, `action` from 7 to 128 or `flags` above 123
+// counts as stopped. It has eight bytes, so that it crosses to C in one register.
 #[repr(C)]
 pub struct FlatLink {
     pub got: u16,
@@ -38,8 +40,9 @@ pub struct FlatLink {
 
 // What a raw byte gives: kind 0 needs more; 1 is a character (first); 2 the Escape state (first, 0 or 1); 3 an event (Y, X, A); 4 an address
 // (first to fourth, high byte first); 5 a finished reply (length); 6 an error (first is its number, length that of its text, which stands in the
-// other lent bytes from the second on); 7 a restart; 8 a refusal (first is its number). What is not named is 0. It is three words without
-// padding, so that it can be copied word by word.
+// other lent bytes from the second on); 7 a restart; 8 a refusal (first is its number); 9 a control block (length, its bytes stand in the other lent
+// bytes); 10 execute, 11 a load, 12 a save (first to fourth, as of an address); 13 load data (first); 14 the end of a load (first is 0) or save (1).
+// What is not named is 0. It is three words without padding, so that it can be copied word by word.
 #[repr(C)]
 pub struct FlatTold {
     pub link: FlatLink,
@@ -59,12 +62,13 @@ pub struct FlatBegun {
     pub answer: u8,
 }
 
-// What the loop over raw bytes gives: where it ended, how many of them it used, and how many notes it wrote.
+// What the loop over raw bytes gives: where it ended, how many of them it used, how many notes it wrote, and how many bytes of data.
 #[repr(C)]
 pub struct FlatRan {
     pub told: FlatTold,
     pub used: usize,
     pub noted: usize,
+    pub stored: usize,
 }
 
 // A fresh link; it is also what resets a stopped one.
@@ -226,16 +230,17 @@ pub fn run(
     reply: &mut [u8; CallKind::REPLY],
     own: &mut [u8; Link::OWN],
     room: &mut [u8],
+    content: &mut [u8],
 ) -> FlatRan
-    ensures { λ r. ⌜ Flat-run-done link (now (reply .entry)) (now (own .entry)) (now (raw .entry)) (now (room .entry)) r (now (reply .exit)) (now (own .exit)) (now (room .exit)) ⌝ }
+    ensures { λ r. ⌜ Flat-run-done link (now (reply .entry)) (now (own .entry)) (now (raw .entry)) (now (room .entry)) (now (content .entry)) r (now (reply .exit)) (now (own .exit)) (now (room .exit)) (now (content .exit)) ⌝ }
 {
     if has_tags(link) {
         return flat_ran(
             link,
-            link_loop::run(unflattened(link), raw, reply, own, room),
+            link_loop::run(unflattened(link), raw, reply, own, room, content),
         );
     }
-    unknown(link, raw.len(), room.len())
+    unknown(link, raw.len(), room.len(), content.len())
 }
 
 // The loop's flat result, beside the record given.
@@ -248,15 +253,16 @@ fn flat_ran(given: FlatLink, ran: Ran) -> FlatRan
         told: flat_told(flattened(given, next), answer),
         used: ran.used,
         noted: ran.noted,
+        stored: ran.stored,
     }
 }
 
-// The loop over so many raw bytes with so much room, of a record whose numbers are out of range: too little room comes first, and no bytes
-// need more.
-fn unknown(link: FlatLink, bytes: usize, room: usize) -> FlatRan
-    ensures { λ r. ⌜ r ≡ flatUnknown link bytes room ⌝ }
+// The loop over so many raw bytes with so much room and content, of a record whose numbers are out of range: too little of them comes first, and no
+// bytes need more.
+fn unknown(link: FlatLink, bytes: usize, room: usize, content: usize) -> FlatRan
+    ensures { λ r. ⌜ r ≡ flatUnknown link bytes room content ⌝ }
 {
-    if room / 5 < bytes {
+    if link_loop::lacks_room(link.held, bytes, room, content) {
         return unnoted(flat_told(link, Answer::Refused(8)), 0);
     }
     if bytes == 0 {
@@ -272,6 +278,7 @@ fn unnoted(told: FlatTold, used: usize) -> FlatRan
         told: told,
         used: used,
         noted: 0,
+        stored: 0,
     }
 }
 
@@ -293,15 +300,24 @@ fn flat_told(link: FlatLink, answer: Answer) -> FlatTold
             third: a,
             fourth: 0,
         },
-        Answer::Address { b3, b2, b1, b0 } => FlatTold {
+        Answer::Address {
+            target,
+            b3,
+            b2,
+            b1,
+            b0,
+        } => FlatTold {
             link: link,
             length: 0,
-            kind: 4,
+            kind: notes::address_kind(target) as u32,
             first: b3,
             second: b2,
             third: b1,
             fourth: b0,
         },
+        Answer::Block(n) => told(link, 9, 0, n),
+        Answer::Loaded(b) => told(link, 13, b, 0),
+        Answer::Ended { save } => told(link, 14, flat::flag_number(0, save), 0),
         Answer::Error { number, length } => told(link, 6, number, length),
         Answer::Restart => told(link, 7, 0, 0),
         Answer::Refused(n) => told(link, 8, n, 0),
@@ -360,10 +376,13 @@ fn has_tags(link: FlatLink) -> bool
     if 13 < link.wait {
         return false;
     }
-    if 3 < link.action {
+    if 123 < link.flags {
         return false;
     }
-    link.flags <= 3
+    if link.action <= 6 {
+        return true;
+    }
+    129 <= link.action
 }
 
 // The link of a flat record, and its parts by number.
@@ -376,7 +395,8 @@ fn unflattened(link: FlatLink) -> Link
         escape: link.flags % 2 == 1,
         doing: doing_at(link.action),
         held: link.held,
-        stopped: 2 <= link.flags,
+        nested: link.flags / 4,
+        stopped: link.flags / 2 % 2 == 1,
     }
 }
 
@@ -392,16 +412,16 @@ fn wait_at(n: u8, out_length: u8) -> Wait
 fn doing_at(n: u8) -> Doing
     ensures { λ r. ⌜ r ≡ doingAt n ⌝ }
 {
-    if n == 0 {
-        return Doing::Quiet;
+    match n {
+        0 => Doing::Quiet,
+        1 => Doing::Open(Action::Error),
+        2 => Doing::Open(Action::Event),
+        3 => Doing::Open(Action::Address(Target::Set)),
+        4 => Doing::Open(Action::Address(Target::Execute)),
+        5 => Doing::Open(Action::Address(Target::Load)),
+        6 => Doing::Open(Action::Address(Target::Save)),
+        _ => Doing::Open(Action::Block(n % 128)),
     }
-    if n == 1 {
-        return Doing::Open(Action::Error);
-    }
-    if n == 2 {
-        return Doing::Open(Action::Event);
-    }
-    Doing::Open(Action::Address)
 }
 
 // The flat record of a link, beside the record given, whose out length is kept where no OSWORD waits.
@@ -416,7 +436,7 @@ fn flattened(given: FlatLink, link: Link) -> FlatLink
         wait: wait_number(wait),
         out_length: wait_out(given.out_length, wait),
         action: doing_number(doing),
-        flags: flags_number(link.escape, link.stopped),
+        flags: flags_number(link.escape, link.stopped, link.nested),
     }
 }
 
@@ -446,14 +466,27 @@ fn doing_number(doing: Doing) -> u8
         Doing::Open(action) => match action {
             Action::Error => 1,
             Action::Event => 2,
-            Action::Address => 3,
+            Action::Address(target) => match target {
+                Target::Set => 3,
+                Target::Execute => 4,
+                Target::Load => 5,
+                Target::Save => 6,
+            },
+            Action::Block(n) => 128 + n % 128,
         },
     }
 }
 
-fn flags_number(escape: bool, stopped: bool) -> u8
-    ensures { λ r. ⌜ r ≡ flagsNumber escape stopped ⌝ }
+// The flags; a number of open transfers that no link has counts as stopped.
+fn flags_number(escape: bool, stopped: bool, nested: u8) -> u8
+    ensures { λ r. ⌜ r ≡ flagsNumber escape stopped nested ⌝ }
 {
+    if 30 < nested {
+        return 255;
+    }
     let seen = flat::flag_number(0, escape);
-    if stopped { seen + 2 } else { seen }
+    if stopped {
+        return 4 * nested + seen + 2;
+    }
+    4 * nested + seen
 }

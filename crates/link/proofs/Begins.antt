@@ -15,9 +15,9 @@ use Rattle.link.specs.declared.Link.{Link}
 use Rattle.link.specs.declared.Begun.{Begun}
 use Rattle.link.specs.declared.Begun.the-variants.{Waits, Complete, Denied}
 use Rattle.link.specs.declared.Started.{Started}
-use Rattle.link.specs.View.{ownRoom, usableOf, viewOf, begunOf, waitingFrom, Begin-done, Begin-none-done}
+use Rattle.link.specs.View.{ownRoom, nestRoom, usableOf, viewOf, begunOf, waitingFrom, Begin-done, Begin-none-done}
 use Rattle.link.specs.Parts.{begunFrom, busyWith, barredBy}
-use Rattle.link.proofs.Steps.{usable-live, usable-held}
+use Rattle.link.proofs.Steps.{usable-live, usable-held, usable-nested}
 
 denied : (n : ℕ) → Denied n ≡ Waits → ⊥
 denied n e = let z : _≡_ {A = ℕ} 0 1 = cc in omega arith
@@ -75,7 +75,7 @@ module _ (l : Link) (k : CallKind) (u : usableOf l ≡ true) (n0 : longest (shap
   waiting-usable : usableOf (waitingFrom l k) ≡ true
   unfolding usableOf
   waiting-usable =
-      simp (usable-live l u, lt-ltb 0 (longest (shapeOf (kindFor k))) (omega arith), lt-ltb (l .held) (ownRoom (l .doing)) (usable-held l u))
+      simp (usable-live l u, lt-ltb 0 (longest (shapeOf (kindFor k))) (omega arith), lt-ltb (l .held) (ownRoom (l .doing)) (usable-held l u), lt-ltb (l .nested) (nestRoom (l .doing)) (usable-nested l u))
 
   pub begin-waits : l .wait ≡ Idle → Begin-done l k (record { answer = Waits; link = waitingFrom l k })
   unfolding rules.begin rules.enters

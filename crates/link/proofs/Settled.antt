@@ -5,28 +5,34 @@ use mathlib.Core.Path.{_≡_, refl, sym, ap, ap₂, subst, _∙_}
 use mathlib.Core.Bool.{Bool, true, false}
 use mathlib.Core.List.{List}
 use native.Mathlib.Omega.{arith}
+use lib.Dec.{ltb}
 use lib.ListN.{length, take}
 use lib.Seq.{length-take-le}
+use borrow.Author.Tests.{ltb-true}
 use Rattle.serial_rules.specs.Escape.{Piece, pending, dataByte, mark, pieceOf}
 use Rattle.serial_rules.specs.Body.{Turn, more, done, refused}
 use Rattle.serial_rules.specs.Reply as kinds
 use Rattle.serial_rules.specs.Reply.{shapeOf, shapeTurn, longest}
 use Rattle.serial_rules.specs.Link as rules
 use Rattle.serial_rules.proofs.Lent.{turn-length}
+use Rattle.serial_rules.proofs.Shapes.{choice}
+use Rattle.serial_rules.proofs.Nest.{nestNumber, nest-back}
 use Rattle.kind.specs.Kinds.{kindFor, replyLent}
 use Rattle.kind.specs.declared.CallKind.{CallKind}
 use Rattle.kind.specs.declared.CallKind.the-variants.{Osrdch, Oscli, OsbyteLow, OsbyteHigh, Osword, Osword0, Osargs, Osbget, Osbput, OsfindClose, OsfindOpen, Osfile, Osgbpb}
 use Rattle.link.specs.declared.Wait.{Wait}
 use Rattle.link.specs.declared.Wait.the-variants.{Idle, Waiting}
-use Rattle.link.specs.declared.Action.{Action}
-use Rattle.link.specs.declared.Action.the-variants.{Error, Event, Address}
+use Rattle.actions.specs.Actions.{actionFor}
+use Rattle.actions.specs.declared.Action.{Action}
+use Rattle.actions.specs.declared.Action.the-variants.{Error, Event, Address, Block}
+use Rattle.actions.specs.declared.Target.the-variants.{Set, Execute, Load, Save}
 use Rattle.link.specs.declared.Doing.{Doing}
 use Rattle.link.specs.declared.Doing.the-variants.{Quiet, Open}
 use Rattle.link.specs.declared.Link.{Link}
 use Rattle.link.specs.declared.Answer.{Answer}
 use Rattle.link.specs.declared.Stepped.{Stepped}
-use Rattle.link.specs.View.{waitFor, doingFor, replyRoom, ownRoom, usableOf, ownLent, viewOf, answerFor, waitLent, tokenLent, replyAfter, pieceLent, ownAfter, stoppedFrom, Step-done}
-use Rattle.link.proofs.Steps.{usable-live, usable-got, usable-held}
+use Rattle.link.specs.View.{waitFor, doingFor, targetBack, replyRoom, ownRoom, usableOf, ownLent, viewOf, answerFor, waitLent, tokenLent, replyAfter, pieceLent, ownAfter, stoppedFrom, Step-done}
+use Rattle.link.proofs.Steps.{usable-live, usable-got, usable-held, nested-low}
 
 -- the parts of a record from those of its view: no two have one view
 abbrev kindBack : kinds.Kind → CallKind
@@ -70,7 +76,17 @@ wait-back (Waiting k) = ap Waiting (kind-back k)
 abbrev actionBack : rules.Action → Action
 actionBack rules.failing = Error
 actionBack rules.signal = Event
-actionBack rules.place = Address
+actionBack (rules.place t) = Address (targetBack t)
+actionBack (rules.control n) = Block n
+
+action-back : (a : Action) → actionBack (actionFor a) ≡ a
+action-back Error = refl
+action-back Event = refl
+action-back (Address Set) = refl
+action-back (Address Execute) = refl
+action-back (Address Load) = refl
+action-back (Address Save) = refl
+action-back (Block n) = refl
 
 abbrev doingBack : rules.Doing → Doing
 doingBack rules.none = Quiet
@@ -78,9 +94,7 @@ doingBack (rules.own a h) = Open (actionBack a)
 
 doing-back : (d : Doing) (h : List ℕ) → doingBack (doingFor d h) ≡ d
 doing-back Quiet h = refl
-doing-back (Open Error) h = refl
-doing-back (Open Event) h = refl
-doing-back (Open Address) h = refl
+doing-back (Open a) h = ap Open (action-back a)
 
 abbrev heldIn : rules.Doing → ℕ
 heldIn rules.none = 0
@@ -92,7 +106,7 @@ held-back (Open a) n own h room = length-take-le n own room
 
 abbrev linkBack : rules.Layer → rules.Frame → Link
 linkBack y f =
-    record { wait = waitBack (f .wait); got = length (f .got); escape = y .escape; doing = doingBack (y .doing); held = heldIn (y .doing); stopped = false }
+    record { wait = waitBack (f .wait); got = length (f .got); escape = y .escape; doing = doingBack (y .doing); held = heldIn (y .doing); nested = nestNumber (y .stack); stopped = false }
 
 -- the link that a step leaves, by the view of it: a usable record, and else the one given, stopped
 abbrev leaves : Link → rules.Link → Link
@@ -109,6 +123,7 @@ module _ (l : Link) (reply own : List ℕ) (u : usableOf l ≡ true) (got : l .g
         length-take-le (l .got) reply got,
         doing-back (l .doing) (take (l .held) own),
         held-back (l .doing) (l .held) own (usable-held l u) held,
+        nest-back (l .nested) (nested-low l u),
         ← live,
       )
 
@@ -145,7 +160,8 @@ own-fits : (d : Doing) → ownRoom d ≤ ownLent
 own-fits Quiet = omega arith
 own-fits (Open Error) = omega arith
 own-fits (Open Event) = omega arith
-own-fits (Open Address) = omega arith
+own-fits (Open (Address t)) = omega arith
+own-fits (Open (Block n)) = choice (λ (k : ℕ). k ≤ ownLent) (ltb n 0x80) (λ low. omega (arith, ltb-true n 0x80 low)) (λ _. omega arith)
 
 -- what waits after a step waited before it, or nothing does, so that the most bytes of its reply stay below a limit
 abbrev waitRoom : rules.Wait → ℕ
@@ -185,13 +201,13 @@ room-kept (rules.live y f) x h = go (rules.look y x .token)
     go (rules.bad n) = omega arith
 
 -- only a refusal stops a link
-data Refuses : rules.Report → Type 0 where
+pub data Refuses : rules.Report → Type 0 where
   refuses : (n : ℕ) → Refuses (rules.refusal n)
 
 never : {y : rules.Layer} {f : rules.Frame} → rules.live y f ≡ rules.stopped → ⊥
 never e = let z : _≡_ {A = ℕ} 0 1 = cc in omega arith
 
-stops : (v : rules.Link) (x : ℕ) → rules.step v x .next ≡ rules.stopped → Refuses (rules.step v x .report)
+pub stops : (v : rules.Link) (x : ℕ) → rules.step v x .next ≡ rules.stopped → Refuses (rules.step v x .report)
 unfolding rules.step rules.meets
 stops rules.stopped x e = refuses 7
 stops (rules.live y f) x e = go (rules.look y x .token) e

@@ -1,159 +1,251 @@
 -- What each outcome of a raw byte promises: one law for each.
-use Prim.Native.Nat.{ℕ, zero, suc, _+_, _-_, _≤_, _<_, _%_}
+use Prim.Native.Nat.{ℕ, zero, suc, _+_, _-_, _*_, _≤_, _<_, _/_, _%_}
 use mathlib.Core.Path.{_≡_, refl, sym, ap, subst, _∙_}
 use mathlib.Core.Bool.{Bool, true, false, cond, not, _&&_}
 use mathlib.Core.List.{List, [], _∷_}
 use native.Mathlib.Omega.{arith}
-use native.Mathlib.Nat.{le-of-lt, div-one}
+use native.Mathlib.Nat.{le-of-lt}
 use denote.Enum.Declared.{tagOf}
 use lib.Dec.{eqb, ltb}
 use lib.ListN.{length, take, drop, set, length-drop, length-set}
 use lib.Seq.{length-take-le, take-set-le, getD-take, getD-set-same, getD-set-other}
-use borrow.Author.Tests.{ltb-true, lt-ltb, ne-eqb, not-true}
+use borrow.Author.Tests.{ltb-true, ltb-false, lt-ltb, eq-eqb, ne-eqb, eqb-true, eqb-false, not-true}
 use Rattle.serial_rules.specs.Escape.{Piece, pending, dataByte, mark, pieceOf}
-use Rattle.serial_rules.specs.Marks.{inwardClass, errorMark, escapeMark, eventMark, addressMark}
 use Rattle.serial_rules.specs.Body.{more, done, refused}
 use Rattle.serial_rules.specs.Fields.{at}
-use Rattle.serial_rules.specs.Reply.{shapeOf, shapeTurn, longest}
+use Rattle.serial_rules.specs.Reply.{shapeOf, shapeTurn}
 use Rattle.serial_rules.specs.Link as rules
+use Rattle.serial_rules.specs.Nest.{nestOf}
 use Rattle.serial_rules.proofs.Lent.{take-next}
-use Rattle.serial_rules.proofs.Shapes.{more-fits, fixed-done, text-done}
+use Rattle.serial_rules.proofs.Shapes.{choice, more-fits, fixed-done, text-done}
 use Rattle.serial_rules.proofs.Trip.{and-both}
+use Rattle.serial_rules.proofs.Depth as depth
+use Rattle.serial_rules.proofs.Nest.{nest-none, nest-top, nest-load, nest-save, nest-few, nest-full}
+use Rattle.actions.specs.Actions.{actionFor, meaningFor, opensTransfer}
+use Rattle.actions.specs.declared.Target.{Target}
+use Rattle.actions.specs.declared.Target.the-variants.{Set, Execute, Load, Save}
+use Rattle.actions.specs.declared.Action.{Action}
+use Rattle.actions.specs.declared.Action.the-variants.{Error, Event, Address, Block}
+use Rattle.actions.specs.declared.Meaning.{Meaning}
+use Rattle.actions.specs.declared.Meaning.the-variants.{Starts}
 use Rattle.kind.specs.Kinds.{kindFor}
 use Rattle.kind.specs.declared.CallKind.{CallKind}
 use Rattle.link.specs.declared.Wait.{Wait}
 use Rattle.link.specs.declared.Wait.the-variants.{Idle, Waiting}
-use Rattle.link.specs.declared.Action.{Action}
-use Rattle.link.specs.declared.Action.the-variants.{Error, Event, Address}
 use Rattle.link.specs.declared.Doing.{Doing}
 use Rattle.link.specs.declared.Doing.the-variants.{Quiet, Open}
 use Rattle.link.specs.declared.Link.{Link}
 use Rattle.link.specs.declared.Answer.{Answer}
 use Rattle.link.specs.declared.Answer.the-variants as variant
 use Rattle.link.specs.declared.Stepped.{Stepped}
-use Rattle.link.specs.View.{waitFor, actionFor, doingFor, replyRoom, ownRoom, usableOf, reportOf, answerFor, waitLent, doingLent, pieceLent, replyAfter, ownAfter, Step-done}
-use Rattle.link.specs.Parts.{refusedFrom, pausedFrom, goingFrom, restingWith, frameOf, doingOf, Link-gives, Met, Mark-done, Opening-done, Data-done, Reply-byte-done, Own-done, finishAt, Finished-done, failureFor}
+use Rattle.link.specs.View.{waitFor, doingFor, replyRoom, ownRoom, nestRoom, usableOf, transferFor, reportOf, answerFor, failureFor, toldBy, waitLent, doingLent, pieceLent, replyAfter, ownAfter, Step-done}
+use Rattle.link.specs.Parts.{refusedFrom, pausedFrom, goingFrom, nestingFrom, placedFrom, restingWith, frameOf, doingOf, Link-gives, Met, Mark-done, Outside-done, Opening-done, Start-done, Closing-done, Data-done, Reply-byte-done, Own-done, finishAt, Finished-done}
 use Rattle.link.proofs.Answer as answers
 
 -- a usable record, part by part
-pub usable-live : (l : Link) → usableOf l ≡ true → l .stopped ≡ false
-unfolding usableOf
-usable-live l e =
-    not-true (l .stopped) (and-both (not (l .stopped)) (ltb (l .got) (replyRoom (l .wait)) && ltb (l .held) (ownRoom (l .doing))) e .0)
+module _ (l : Link) (e : usableOf l ≡ true) where
+  abbrev r : Bool
+  r = ltb (l .got) (replyRoom (l .wait))
 
-pub usable-got : (l : Link) → usableOf l ≡ true → l .got < replyRoom (l .wait)
-unfolding usableOf
-usable-got l e =
-    let r = ltb (l .got) (replyRoom (l .wait)) in
-    let o = ltb (l .held) (ownRoom (l .doing)) in
-    ltb-true (l .got) (replyRoom (l .wait)) (and-both r o (and-both (not (l .stopped)) (r && o) e .1) .0)
+  abbrev o : Bool
+  o = ltb (l .held) (ownRoom (l .doing))
 
-pub usable-held : (l : Link) → usableOf l ≡ true → l .held < ownRoom (l .doing)
-unfolding usableOf
-usable-held l e =
-    let r = ltb (l .got) (replyRoom (l .wait)) in
-    let o = ltb (l .held) (ownRoom (l .doing)) in
-    ltb-true (l .held) (ownRoom (l .doing)) (and-both r o (and-both (not (l .stopped)) (r && o) e .1) .1)
+  abbrev n : Bool
+  n = ltb (l .nested) (nestRoom (l .doing))
 
--- an answer that is no refusal: `Refused` is the ninth of them
-told : (a : Answer) → tagOf answers.the-type a < 8 → (n : ℕ) → a ≡ variant.Refused n → ⊥
+  pub usable-live : l .stopped ≡ false
+  unfolding usableOf
+  usable-live = not-true (l .stopped) (and-both (not (l .stopped)) (r && (o && n)) e .0)
+
+  within : (r && (o && n)) ≡ true
+  unfolding usableOf
+  within = and-both (not (l .stopped)) (r && (o && n)) e .1
+
+  pub usable-got : l .got < replyRoom (l .wait)
+  usable-got = ltb-true (l .got) (replyRoom (l .wait)) (and-both r (o && n) within .0)
+
+  pub usable-held : l .held < ownRoom (l .doing)
+  usable-held = ltb-true (l .held) (ownRoom (l .doing)) (and-both o n (and-both r (o && n) within .1) .0)
+
+  pub usable-nested : l .nested < nestRoom (l .doing)
+  usable-nested = ltb-true (l .nested) (nestRoom (l .doing)) (and-both o n (and-both r (o && n) within .1) .1)
+
+-- no more than four transfers are open, whatever action is
+pub nest-most : (d : Doing) → nestRoom d ≤ 31
+nest-most Quiet = omega arith
+nest-most (Open a) = choice (λ (n : ℕ). n ≤ 31) (opensTransfer a) (λ _. omega arith) (λ _. omega arith)
+
+pub nested-low : (l : Link) → usableOf l ≡ true → l .nested ≤ 30
+nested-low l u = omega (arith, usable-nested l u, nest-most (l .doing))
+
+-- an answer that is no refusal: `Refused` is the last of them
+told : (a : Answer) → tagOf answers.the-type a < 11 → (n : ℕ) → a ≡ variant.Refused n → ⊥
 told a h n e = omega (arith, ap (tagOf answers.the-type) e)
 
--- the four ways in which a step leaves the record
+-- the five ways in which a step leaves the record
 module _ (l : Link) (reply own : List ℕ) where
   refused-gives : (n : ℕ) → Link-gives l (rules.gives (rules.refusal n) rules.stopped) reply own (refusedFrom l n) reply own
   unfolding usableOf
   refused-gives n = record { step-is = refl; answer-is = refl; reply-bytes = refl; own-bytes = refl; stops = λ k e. refl }
 
   paused-gives : usableOf l ≡ true →
-      Link-gives l (rules.gives rules.needMore (rules.live (rules.layer true (doingOf l own)) (frameOf l reply))) reply own (pausedFrom l) reply own
+      Link-gives l (rules.gives rules.needMore (rules.live (rules.layer true (doingOf l own) (nestOf (l .nested))) (frameOf l reply))) reply own (pausedFrom l) reply own
   unfolding usableOf
   paused-gives u = record {
-    step-is = simp (lt-ltb (l .got) (replyRoom (l .wait)) (usable-got l u), lt-ltb (l .held) (ownRoom (l .doing)) (usable-held l u));
+    step-is =
+        simp (
+          lt-ltb (l .got) (replyRoom (l .wait)) (usable-got l u),
+          lt-ltb (l .held) (ownRoom (l .doing)) (usable-held l u),
+          lt-ltb (l .nested) (nestRoom (l .doing)) (usable-nested l u),
+        );
     answer-is = refl;
     reply-bytes = refl;
     own-bytes = refl;
     stops = λ k e. absurd (told variant.More (omega arith) k e);
   }
 
-  going-gives : (a : Answer) (d : Doing) (n : ℕ) → usableOf l ≡ true → n < ownRoom d → tagOf answers.the-type a < 8 → a ≡ answerFor (reportOf a reply own) →
-      Link-gives l (rules.gives (reportOf a reply own) (rules.live (rules.layer false (doingFor d (take n own))) (frameOf l reply))) reply own (goingFrom l a d n) reply own
+  going-gives : (a : Answer) (d : Doing) (n : ℕ) → usableOf l ≡ true → n < ownRoom d → l .nested < nestRoom d → tagOf answers.the-type a < 11 → a ≡ answerFor (reportOf a reply own) →
+      Link-gives l (rules.gives (reportOf a reply own) (rules.live (rules.layer false (doingFor d (take n own)) (nestOf (l .nested))) (frameOf l reply))) reply own (goingFrom l a d n) reply own
   unfolding usableOf
-  going-gives a d n u h t is = record {
-    step-is = simp (lt-ltb (l .got) (replyRoom (l .wait)) (usable-got l u), lt-ltb n (ownRoom d) h);
+  going-gives a d n u h m t is = record {
+    step-is = simp (lt-ltb (l .got) (replyRoom (l .wait)) (usable-got l u), lt-ltb n (ownRoom d) h, lt-ltb (l .nested) (nestRoom d) m);
     answer-is = is;
     reply-bytes = refl;
     own-bytes = refl;
     stops = λ k e. absurd (told a t k e);
   }
 
-  resting-gives : (a : Answer) (w : Wait) (n : ℕ) → n < replyRoom w → tagOf answers.the-type a < 8 → a ≡ answerFor (reportOf a reply own) →
-      Link-gives l (rules.gives (reportOf a reply own) (rules.live (rules.layer false rules.none) (rules.frame (waitFor w) (take n reply)))) reply own (restingWith a w n) reply own
+  -- with no action open
+  quiet-gives : (a : Answer) → usableOf l ≡ true → tagOf answers.the-type a < 11 → a ≡ answerFor (reportOf a reply own) →
+      Link-gives l (rules.gives (reportOf a reply own) (rules.live (rules.layer false rules.none (nestOf (l .nested))) (frameOf l reply))) reply own (goingFrom l a Quiet 0) reply own
+  quiet-gives a u t is = going-gives a Quiet 0 u (omega arith) (omega (arith, nested-low l u)) t is
+
+  nesting-gives : (a : Answer) (n : ℕ) → usableOf l ≡ true → n ≤ 30 → tagOf answers.the-type a < 11 → a ≡ answerFor (reportOf a reply own) →
+      Link-gives l (rules.gives (reportOf a reply own) (rules.live (rules.layer false rules.none (nestOf n)) (frameOf l reply))) reply own (nestingFrom l a n) reply own
+  unfolding usableOf
+  nesting-gives a n u m t is = record {
+    step-is = simp (lt-ltb (l .got) (replyRoom (l .wait)) (usable-got l u), lt-ltb n 31 (omega arith));
+    answer-is = is;
+    reply-bytes = refl;
+    own-bytes = refl;
+    stops = λ k e. absurd (told a t k e);
+  }
+
+  resting-gives : (a : Answer) (w : Wait) (n : ℕ) → n < replyRoom w → tagOf answers.the-type a < 11 → a ≡ answerFor (reportOf a reply own) →
+      Link-gives l (rules.gives (reportOf a reply own) (rules.live (rules.layer false rules.none []) (rules.frame (waitFor w) (take n reply)))) reply own (restingWith a w n) reply own
   unfolding usableOf
   resting-gives a w n h t is = record {
-    step-is = simp (lt-ltb n (replyRoom w) h);
+    step-is = simp (lt-ltb n (replyRoom w) h, nest-none);
     answer-is = is;
     reply-bytes = refl;
     own-bytes = refl;
     stops = λ k e. absurd (told a t k e);
   }
-
--- a mark, by its class
-module _ (m : ℕ) where
-  pub opens-error : inwardClass m ≡ errorMark → rules.markOutside m ≡ rules.opens rules.failing
-  unfolding rules.markOutside
-  opens-error e = rw e
-
-  escape-state : inwardClass m ≡ escapeMark →
-      rules.markOutside m ≡ rules.seen (rules.acted (rules.escapeState (eqb (m % 2) 1))) (rules.layer false rules.none)
-  unfolding rules.markOutside
-  escape-state e = rw (e, div-one)
-
-  pub opens-event : inwardClass m ≡ eventMark → rules.markOutside m ≡ rules.opens rules.signal
-  unfolding rules.markOutside
-  opens-event e = rw e
-
-  pub opens-address : inwardClass m ≡ addressMark → rules.markOutside m ≡ rules.opens rules.place
-  unfolding rules.markOutside
-  opens-address e = rw e
-
-  not-carried : (inwardClass m ≡ errorMark → ⊥) → (inwardClass m ≡ escapeMark → ⊥) → (inwardClass m ≡ eventMark → ⊥) →
-      (inwardClass m ≡ addressMark → ⊥) → rules.markOutside m ≡ rules.seen (rules.bad 4) (rules.layer false rules.none)
-  unfolding rules.markOutside
-  not-carried n1 n2 n3 n4 = rw (ne-eqb (inwardClass m) 1 n1, ne-eqb (inwardClass m) 2 n2, ne-eqb (inwardClass m) 3 n3, ne-eqb (inwardClass m) 4 n4)
-
-has-own : (a : Action) → 0 < ownRoom (Open a)
-has-own Error = omega arith
-has-own Event = omega arith
-has-own Address = omega arith
 
 -- What is promised of a byte, by what the actions do and by what waits: only that part of the record is looked at.
 abbrev MarkAt : Link → List ℕ → List ℕ → ℕ → Stepped → Doing → Type 0
-MarkAt l reply own m x d = Met l reply own (rules.markSeen (doingFor d (take (l .held) own)) m) x reply own
+MarkAt l reply own m x d = Met l reply own (rules.markSeen (nestOf (l .nested)) (doingFor d (take (l .held) own)) m) x reply own
 
 abbrev DataAt : Link → List ℕ → List ℕ → ℕ → Stepped → List ℕ → List ℕ → Doing → Type 0
 DataAt l reply own b x reply-left own-left d =
-    Met l reply (doingLent own (doingFor d (take (l .held) own)) b) (rules.dataSeen (doingFor d (take (l .held) own)) b) x reply-left own-left
+    Met l reply (doingLent own (doingFor d (take (l .held) own)) b) (rules.dataSeen (nestOf (l .nested)) (doingFor d (take (l .held) own)) b) x reply-left own-left
 
 abbrev ReplyAt : Link → List ℕ → List ℕ → ℕ → Stepped → List ℕ → Wait → Type 0
 ReplyAt l reply own b x left w =
     let m = rules.datumMet (frameOf l reply) (waitFor w) b in
-    Link-gives l (rules.gives (m .report) (rules.linkAt (rules.layer false rules.none) (m .next))) (waitLent reply (waitFor w) (take (l .got) reply) b) own x left own
+    Link-gives l (rules.gives (m .report) (rules.linkAt (rules.layer false rules.none []) (m .next))) (waitLent reply (waitFor w) (take (l .got) reply) b) own x left own
+
+-- whether an action may start where the transfers of number n are open
+abbrev Different : Type 0
+Different = _≡_ {A = ℕ} 0 1
+
+module _ (n : ℕ) where
+  pub may-always : (a : Action) → opensTransfer a ≡ false → rules.mayStart (actionFor a) (nestOf n) ≡ true
+  may-always Error e = refl
+  may-always Event e = refl
+  may-always (Address Set) e = refl
+  may-always (Address Execute) e = refl
+  may-always (Address Load) e = let z : Different = cc in absurd (omega arith)
+  may-always (Address Save) e = let z : Different = cc in absurd (omega arith)
+  may-always (Block k) e = refl
+
+  few : (t : Bool) → ltb n 15 ≡ t → t ≡ ltb (length (nestOf n)) rules.deepest
+  few true e = sym (nest-few n (ltb-true n 15 e))
+  few false e = sym (nest-full n (ltb-false n 15 e))
+
+  pub may-open : (a : Action) → opensTransfer a ≡ true → ltb n 15 ≡ rules.mayStart (actionFor a) (nestOf n)
+  may-open Error e = let z : Different = cc in absurd (omega arith)
+  may-open Event e = let z : Different = cc in absurd (omega arith)
+  may-open (Address Set) e = let z : Different = cc in absurd (omega arith)
+  may-open (Address Execute) e = let z : Different = cc in absurd (omega arith)
+  may-open (Address Load) e = few (ltb n 15) refl
+  may-open (Address Save) e = few (ltb n 15) refl
+  may-open (Block k) e = let z : Different = cc in absurd (omega arith)
+
+  -- then there is room for one more
+  start-low : (a : Action) → n ≤ 30 → rules.mayStart (actionFor a) (nestOf n) ≡ true → n < nestRoom (Open a)
+  start-low a h may =
+      choice (λ (k : ℕ). n < k) (opensTransfer a) (λ e. ltb-true n 15 (may-open a e ∙ may)) (λ _. omega arith)
+
+-- the transfer that an end closes, by the number of the open ones
+parity : (n : ℕ) → cond (eqb (n % 2) 1) rules.load rules.save ≡ transferFor (eqb (n % 2) 0)
+parity n = go (eqb (n % 2) 1) refl
+  where
+    go : (t : Bool) → eqb (n % 2) 1 ≡ t → cond t rules.load rules.save ≡ transferFor (eqb (n % 2) 0)
+    go true e = rw (ne-eqb (n % 2) 0 (λ z. omega (arith, eqb-true (n % 2) 1 e))) refl
+    go false e = let o = eqb-false (n % 2) 1 e in rw (eq-eqb (n % 2) 0 (omega arith)) refl
+
+save-told : (s : Bool) → variant.Ended s ≡ answerFor (rules.ended (transferFor s))
+save-told true = refl
+save-told false = refl
+
+-- none is open, or some are
+none-open : (l : Link) → l .nested ≡ 0 → nestOf (l .nested) ≡ []
+none-open l z = ap nestOf z ∙ nest-none
+
+open-top : (l : Link) → usableOf l ≡ true → (l .nested ≡ 0 → ⊥) → nestOf (l .nested) ≡ cond (eqb (l .nested % 2) 1) rules.load rules.save ∷ nestOf ((l .nested - 1) / 2)
+open-top l u n0 = nest-top (l .nested) (omega arith) (nested-low l u)
+
+-- a mark outside an action, by what it means
+module _ (l : Link) {x : Stepped} where
+  pub mark-unknown : x ≡ refusedFrom l 4 → Outside-done l rules.unknown x
+  unfolding rules.meets
+  mark-unknown q reply own = rw q (refused-gives l reply own 4)
+
+  pub end-alone : l .nested ≡ 0 → x ≡ refusedFrom l 5 → Closing-done l x
+  unfolding rules.meets
+  end-alone e q reply own = rw (none-open l e, q) (refused-gives l reply own 5)
+
+  pub fifth-refused : (a : Action) → rules.mayStart (actionFor a) (nestOf (l .nested)) ≡ false → x ≡ refusedFrom l 13 → Start-done l a x
+  unfolding rules.meets
+  fifth-refused a may q reply own = rw (may, q) (refused-gives l reply own 13)
+
+  module _ (u : usableOf l ≡ true) where
+    pub escape-told : {on : Bool} → x ≡ goingFrom l (variant.EscapeState on) Quiet 0 → Outside-done l (rules.state on) x
+    unfolding rules.meets
+    escape-told {on} q reply own = rw q (quiet-gives l reply own (variant.EscapeState on) u (omega arith) refl)
+
+    -- an action starts: it has room for its bytes, and for the transfer that it opens
+    pub started : (a : Action) → 0 < ownRoom (Open a) → rules.mayStart (actionFor a) (nestOf (l .nested)) ≡ true → x ≡ goingFrom l variant.More (Open a) 0 → Start-done l a x
+    unfolding rules.meets
+    started a some may q reply own =
+        rw (may, q) (going-gives l reply own variant.More (Open a) 0 u some (start-low (l .nested) a (nested-low l u) may) (omega arith) refl)
+
+    pub transfer-ended : (l .nested ≡ 0 → ⊥) → x ≡ nestingFrom l (variant.Ended (eqb (l .nested % 2) 0)) ((l .nested - 1) / 2) → Closing-done l x
+    unfolding rules.meets
+    transfer-ended n0 q reply own =
+        let s = eqb (l .nested % 2) 0 in
+        rw (open-top l u n0, parity (l .nested), q)
+        (nesting-gives l reply own (variant.Ended s) ((l .nested - 1) / 2) u (omega (arith, nested-low l u)) (omega arith) (save-told s))
+
+-- an action that a mark starts has some bytes of its own
+pub start-some : (m : ℕ) {w : Meaning} {a : Action} → meaningFor w ≡ rules.meaningOf m → w ≡ Starts a → 0 < ownRoom (Open a)
+start-some m {w} {a} e is = subst depth.Has-own (sym e ∙ ap meaningFor is) (depth.has-own m)
 
 module _ (l : Link) (m : ℕ) {x : Stepped} where
-  pub opened : (a : Action) → usableOf l ≡ true → rules.markOutside m ≡ rules.opens (actionFor a) → x ≡ goingFrom l variant.More (Open a) 0 → Opening-done l m x
-  unfolding rules.meets
-  opened a u e q reply own = rw (e, q) (going-gives l reply own variant.More (Open a) 0 u (has-own a) (omega arith) refl)
-
-  pub escape-told : usableOf l ≡ true → inwardClass m ≡ escapeMark → x ≡ goingFrom l (variant.EscapeState (eqb (m % 2) 1)) Quiet 0 → Opening-done l m x
-  unfolding rules.meets
-  escape-told u e q reply own =
-      rw (escape-state m e, q) (going-gives l reply own (variant.EscapeState (eqb (m % 2) 1)) Quiet 0 u (omega arith) (omega arith) refl)
-
-  pub mark-refused : (inwardClass m ≡ errorMark → ⊥) → (inwardClass m ≡ escapeMark → ⊥) → (inwardClass m ≡ eventMark → ⊥) →
-      (inwardClass m ≡ addressMark → ⊥) → x ≡ refusedFrom l 4 → Opening-done l m x
-  unfolding rules.meets
-  mark-refused n1 n2 n3 n4 q reply own = rw (not-carried m n1 n2 n3 n4, q) (refused-gives l reply own 4)
+  -- a mark outside an action is one of its meaning
+  pub opening : {w v : Meaning} → meaningFor w ≡ rules.meaningOf m → w ≡ v → Outside-done l (meaningFor v) x → Opening-done l m x
+  opening e is g = subst (λ (w : rules.Meaning). Outside-done l w x) (sym (ap meaningFor is) ∙ e) g
 
   pub mark-outside : l .doing ≡ Quiet → Opening-done l m x → Mark-done l m x
   mark-outside e g reply own = subst (MarkAt l reply own m x) (sym e) (g reply own)
@@ -166,65 +258,80 @@ module _ (l : Link) (m : ℕ) {x : Stepped} where
 all-told : (n b : ℕ) (s : List ℕ) → n < length s → length (take (n + 1) (set s n b)) ≡ n + 1
 all-told n b s h = length-take-le (n + 1) (set s n b) (simp length-set (omega arith))
 
--- a data byte outside an action
-module _ (l : Link) (reply : List ℕ) (b : ℕ) {x : Stepped} where
+-- a data byte outside an action: of the innermost transfer
+module _ (l : Link) (reply : List ℕ) (b : ℕ) {x : Stepped} (u : usableOf l ≡ true) (n0 : l .nested ≡ 0 → ⊥) where
+  pub data-loaded : l .nested % 2 ≡ 1 → x ≡ goingFrom l (variant.Loaded b) Quiet 0 → Reply-byte-done l reply b x reply
+  unfolding rules.meets
+  data-loaded odd q own =
+      let top : nestOf (l .nested) ≡ rules.load ∷ nestOf ((l .nested - 1) / 2) = open-top l u n0 ∙ rw (eq-eqb (l .nested % 2) 1 odd) refl in
+      subst (λ (t : rules.Token). Met l reply own (rules.seen t (rules.layer false rules.none (nestOf (l .nested)))) x reply own) (sym (ap (λ (o : List rules.Transfer). rules.innermost o b) top))
+      (rw q (quiet-gives l reply own (variant.Loaded b) u (omega arith) refl))
+
+  pub data-saved : (l .nested % 2 ≡ 1 → ⊥) → x ≡ refusedFrom l 9 → Reply-byte-done l reply b x reply
+  unfolding rules.meets
+  data-saved even q own =
+      let top : nestOf (l .nested) ≡ rules.save ∷ nestOf ((l .nested - 1) / 2) = open-top l u n0 ∙ rw (ne-eqb (l .nested % 2) 1 even) refl in
+      rw (top, q) (refused-gives l reply own 9)
+
+-- and outside every transfer
+module _ (l : Link) (reply : List ℕ) (b : ℕ) {x : Stepped} (z : l .nested ≡ 0) where
+  outer : {left : List ℕ} (own : List ℕ) → ReplyAt l reply own b x left (l .wait) → Met l reply own (rules.dataSeen (nestOf (l .nested)) rules.none b) x left own
+  unfolding rules.meets
+  outer own g = rw (none-open l z) g
+
   pub character-told : usableOf l ≡ true → l .wait ≡ Idle → x ≡ goingFrom l (variant.Character b) Quiet 0 → Reply-byte-done l reply b x reply
   unfolding rules.meets
   character-told u e q own =
-      subst (ReplyAt l reply own b x reply) (sym e)
-      (rw q (going-gives l reply own (variant.Character b) Quiet 0 u (omega arith) (omega arith) refl))
+      outer own (subst (ReplyAt l reply own b x reply) (sym e)
+      (rw q (rw (none-open l z) at (quiet-gives l reply own (variant.Character b) u (omega arith) refl))))
 
   module _ {k : CallKind} (waits : l .wait ≡ Waiting k) (h : l .got < length reply) where
     pub reply-refused : {n : ℕ} → shapeTurn (shapeOf (kindFor k)) (l .got) b ≡ refused n → x ≡ refusedFrom l n → Reply-byte-done l reply b x reply
-    unfolding rules.meets
     reply-refused {n} t q own =
-        subst (ReplyAt l reply own b x reply) (sym waits)
-        (rw (length-take-le (l .got) reply (le-of-lt h), t, q) (refused-gives l reply own n))
+        outer own (subst (ReplyAt l reply own b x reply) (sym waits)
+        (rw (length-take-le (l .got) reply (le-of-lt h), t, q) (refused-gives l reply own n)))
 
     pub reply-more : shapeTurn (shapeOf (kindFor k)) (l .got) b ≡ more → x ≡ restingWith variant.More (Waiting k) (l .got + 1) →
         Reply-byte-done l reply b x (set reply (l .got) b)
-    unfolding rules.meets
     reply-more t q own =
-        subst (ReplyAt l reply own b x (set reply (l .got) b)) (sym waits)
+        outer own (subst (ReplyAt l reply own b x (set reply (l .got) b)) (sym waits)
         (rw (length-take-le (l .got) reply (le-of-lt h), t, q, ← take-next reply (l .got) b h)
-        (resting-gives l (set reply (l .got) b) own variant.More (Waiting k) (l .got + 1) (more-fits (shapeOf (kindFor k)) (l .got) b t) (omega arith) refl))
+        (resting-gives l (set reply (l .got) b) own variant.More (Waiting k) (l .got + 1) (more-fits (shapeOf (kindFor k)) (l .got) b t) (omega arith) refl)))
 
     pub reply-ended : shapeTurn (shapeOf (kindFor k)) (l .got) b ≡ done → x ≡ restingWith (variant.Reply (l .got + 1)) Idle 0 →
         Reply-byte-done l reply b x (set reply (l .got) b)
-    unfolding rules.meets
     reply-ended t q own =
-        subst (ReplyAt l reply own b x (set reply (l .got) b)) (sym waits)
+        outer own (subst (ReplyAt l reply own b x (set reply (l .got) b)) (sym waits)
         (rw (length-take-le (l .got) reply (le-of-lt h), t, q, ← take-next reply (l .got) b h)
-        (resting-gives l (set reply (l .got) b) own (variant.Reply (l .got + 1)) Idle 0 (omega arith) (omega arith) (ap variant.Reply (sym (all-told (l .got) b reply h)))))
+        (resting-gives l (set reply (l .got) b) own (variant.Reply (l .got + 1)) Idle 0 (omega arith) (omega arith) (ap variant.Reply (sym (all-told (l .got) b reply h))))))
 
 -- the last byte of an action's own stands behind the others
 at-before : (n b : ℕ) (own : List ℕ) (i : ℕ) → i < n → at (take n own) i ≡ at (set own n b) i
 at-before n b own i h = getD-take n own i 0 h ∙ sym (getD-set-other own n i b 0 (λ e. omega arith))
 
-finish-after : (a : Action) (n b : ℕ) (own : List ℕ) → n < longest (rules.ownShape (actionFor a)) → n < length own →
+finish-after : (a : Action) (n b : ℕ) (own : List ℕ) → n < rules.ownMost (actionFor a) → n < length own →
     shapeTurn (rules.ownShape (actionFor a)) n b ≡ done → rules.finish (actionFor a) (take n own) b ≡ finishAt a n (set own n b)
 finish-after Error n b own h room t = rw (take-set-le n own n b (omega arith))
 finish-after Event n b own h room t =
     let e : n ≡ 2 = omega (arith, fixed-done 3 n b h t) in
     let last : at (set own 2 b) 2 ≡ b = getD-set-same own 2 b 0 (omega arith) in
     rw (e, at-before 2 b own 0 (omega arith), at-before 2 b own 1 (omega arith), last)
-finish-after Address n b own h room t =
+finish-after (Address s) n b own h room t =
     let e : n ≡ 3 = omega (arith, fixed-done 4 n b h t) in
     let last : at (set own 3 b) 3 ≡ b = getD-set-same own 3 b 0 (omega arith) in
     rw (e, at-before 3 b own 0 (omega arith), at-before 3 b own 1 (omega arith), at-before 3 b own 2 (omega arith), last)
-
--- no action ends at its first byte
-not-first : (a : Action) (n b : ℕ) → n < longest (rules.ownShape (actionFor a)) → shapeTurn (rules.ownShape (actionFor a)) n b ≡ done → 1 ≤ n
-not-first Error n b h t = text-done n b t
-not-first Event n b h t = omega (arith, fixed-done 3 n b h t)
-not-first Address n b h t = omega (arith, fixed-done 4 n b h t)
+finish-after (Block k) n b own h room t = ap (λ (s : List ℕ). rules.acted (rules.block s)) (sym (take-next own n b room))
 
 -- a data byte of an open action's own
-own-held : (l : Link) {a : Action} → l .doing ≡ Open a → usableOf l ≡ true → l .held < longest (rules.ownShape (actionFor a))
+own-held : (l : Link) {a : Action} → l .doing ≡ Open a → usableOf l ≡ true → l .held < rules.ownMost (actionFor a)
 own-held l is u = subst (λ (d : Doing). l .held < ownRoom d) is (usable-held l u)
 
-pub own-full : (l : Link) {a : Action} (b : ℕ) → l .doing ≡ Open a → usableOf l ≡ true → shapeTurn (rules.ownShape (actionFor a)) (l .held) b ≡ done → 1 ≤ l .held
-own-full l {a} b is u t = not-first a (l .held) b (own-held l is u) t
+pub own-nested : (l : Link) {a : Action} → l .doing ≡ Open a → usableOf l ≡ true → l .nested < nestRoom (Open a)
+own-nested l is u = subst (λ (d : Doing). l .nested < nestRoom d) is (usable-nested l u)
+
+-- an error does not end at its first byte
+pub error-full : {a : Action} (n b : ℕ) → shapeTurn (rules.ownShape (actionFor a)) n b ≡ done → a ≡ Error → 1 ≤ n
+error-full n b t is = text-done n b (subst (λ (a : Action). shapeTurn (rules.ownShape (actionFor a)) n b ≡ done) is t)
 
 module _ (l : Link) (own : List ℕ) (b : ℕ) {x : Stepped} {a : Action} (is : l .doing ≡ Open a) (h : l .held < length own) where
   pub own-refused : {n : ℕ} → shapeTurn (rules.ownShape (actionFor a)) (l .held) b ≡ refused n → x ≡ refusedFrom l n → Own-done l own b x own
@@ -240,7 +347,7 @@ module _ (l : Link) (own : List ℕ) (b : ℕ) {x : Stepped} {a : Action} (is : 
     own-more t q reply =
         subst (DataAt l reply own b x reply (set own (l .held) b)) (sym is)
         (rw (length-take-le (l .held) own (le-of-lt h), t, q, ← take-next own (l .held) b h)
-        (going-gives l reply (set own (l .held) b) variant.More (Open a) (l .held + 1) u (more-fits (rules.ownShape (actionFor a)) (l .held) b t) (omega arith) refl))
+        (going-gives l reply (set own (l .held) b) variant.More (Open a) (l .held + 1) u (depth.own-fits (actionFor a) (l .held) b (own-held l is u) t) (own-nested l is u) (omega arith) refl))
 
     pub own-ended : shapeTurn (rules.ownShape (actionFor a)) (l .held) b ≡ done → Finished-done l a (set own (l .held) b) x →
         Own-done l own b x (set own (l .held) b)
@@ -249,10 +356,10 @@ module _ (l : Link) (own : List ℕ) (b : ℕ) {x : Stepped} {a : Action} (is : 
         (rw (length-take-le (l .held) own (le-of-lt h), t, finish-after a (l .held) b own (own-held l is u) h t) (g reply))
 
 -- an error or restart, by its number and the length of its text
-failure-told : (n k : ℕ) → tagOf answers.the-type (failureFor n k) < 8
+failure-told : (n k : ℕ) → tagOf answers.the-type (failureFor n k) < 11
 failure-told n k = go (eqb n 0) (eqb k 0)
   where
-    go : (t s : Bool) → tagOf answers.the-type (cond t (cond s variant.Restart (variant.Error n k)) (variant.Error n k)) < 8
+    go : (t s : Bool) → tagOf answers.the-type (cond t (cond s variant.Restart (variant.Error n k)) (variant.Error n k)) < 11
     go true true = omega arith
     go true false = omega arith
     go false s = omega arith
@@ -286,24 +393,50 @@ failure-of reply [] n low high = absurd (omega arith)
 failure-of reply (x ∷ own) zero low high = absurd (omega arith)
 failure-of reply (x ∷ own) (suc n) low high = let e : suc n - 1 ≡ n = omega arith in rw e (failure-report reply x n own (omega arith))
 
--- an action with all its bytes
+-- an action with all its bytes: an error, an event, a control block, four address bytes by what they are for
+abbrev Ended : Link → List ℕ → Stepped → (Answer → Stepped) → Action → Type 0
+Ended l own x f a = x ≡ f (toldBy a (l .held) own) → Finished-done l a own x
+
+pub nested-at : (n : ℕ) {s r : Target} → s ≡ r → n < nestRoom (Open (Address s)) → n < nestRoom (Open (Address r))
+nested-at n is h = subst (λ (s : Target). n < nestRoom (Open (Address s))) is h
+
+abbrev quietly : Link → Answer → Stepped
+quietly l n = goingFrom l n Quiet 0
+
+placed : (l : Link) (own : List ℕ) {x : Stepped} → usableOf l ≡ true → (t : Target) → l .nested < nestRoom (Open (Address t)) → Ended l own x (placedFrom l t) (Address t)
+unfolding rules.meets
+placed l own u Set low q reply = rw q (quiet-gives l reply own (toldBy (Address Set) 0 own) u (omega arith) refl)
+placed l own u Execute low q reply = rw q (quiet-gives l reply own (toldBy (Address Execute) 0 own) u (omega arith) refl)
+placed l own u Load low q reply =
+    rw (q, ← nest-load (l .nested) (omega arith)) (nesting-gives l reply own (toldBy (Address Load) 0 own) (2 * l .nested + 1) u (omega arith) (omega arith) refl)
+placed l own u Save low q reply =
+    rw (q, ← nest-save (l .nested) (omega arith)) (nesting-gives l reply own (toldBy (Address Save) 0 own) (2 * l .nested + 2) u (omega arith) (omega arith) refl)
+
 module _ (l : Link) (own : List ℕ) {x : Stepped} {a : Action} where
-  pub error-ended : a ≡ Error → 1 ≤ l .held → l .held ≤ length own → x ≡ restingWith (failureFor (at own 0) (l .held - 1)) Idle 0 → Finished-done l a own x
+  pub error-ended : a ≡ Error → 1 ≤ l .held → l .held ≤ length own → Ended l own x (λ n. restingWith n Idle 0) a
   unfolding rules.meets
-  error-ended is low high q reply =
-      rw (is, q, ← failure-of reply own (l .held) low high)
+  error-ended is low high =
+      subst (Ended l own x (λ n. restingWith n Idle 0)) (sym is) (λ q reply.
+      rw (q, ← failure-of reply own (l .held) low high)
       (resting-gives l reply own (failureFor (at own 0) (l .held - 1)) Idle 0 (omega arith) (failure-told (at own 0) (l .held - 1))
-      (failure-sized reply own (at own 0) (l .held - 1) (simp length-drop (omega arith))))
+      (failure-sized reply own (at own 0) (l .held - 1) (simp length-drop (omega arith)))))
 
-  pub event-ended : a ≡ Event → usableOf l ≡ true → x ≡ goingFrom l (variant.Event (at own 0) (at own 1) (at own 2)) Quiet 0 → Finished-done l a own x
-  unfolding rules.meets
-  event-ended is u q reply = rw (is, q) (going-gives l reply own (variant.Event (at own 0) (at own 1) (at own 2)) Quiet 0 u (omega arith) (omega arith) refl)
+  module _ (u : usableOf l ≡ true) where
+    pub event-ended : a ≡ Event → Ended l own x (quietly l) a
+    unfolding rules.meets
+    event-ended is =
+        subst (Ended l own x (quietly l)) (sym is) (λ q reply.
+        rw q (quiet-gives l reply own (variant.Event (at own 0) (at own 1) (at own 2)) u (omega arith) refl))
 
-  pub address-ended : a ≡ Address → usableOf l ≡ true → x ≡ goingFrom l (variant.Address (at own 0) (at own 1) (at own 2) (at own 3)) Quiet 0 →
-      Finished-done l a own x
-  unfolding rules.meets
-  address-ended is u q reply =
-      rw (is, q) (going-gives l reply own (variant.Address (at own 0) (at own 1) (at own 2) (at own 3)) Quiet 0 u (omega arith) (omega arith) refl)
+    pub block-ended : {k : ℕ} → a ≡ Block k → l .held < length own → Ended l own x (quietly l) a
+    unfolding rules.meets
+    block-ended is h =
+        subst (Ended l own x (quietly l)) (sym is) (λ q reply.
+        rw q (quiet-gives l reply own (variant.Block (l .held + 1)) u (omega arith) (ap variant.Block (sym (length-take-le (l .held + 1) own (omega arith))))))
+
+    pub address-ended : {t : Target} → a ≡ Address t → l .nested < nestRoom (Open a) → Ended l own x (placedFrom l t) a
+    address-ended {t} is low =
+        subst (Ended l own x (placedFrom l t)) (sym is) (placed l own u t (subst (λ (b : Action). l .nested < nestRoom (Open b)) is low))
 
 -- any data byte
 pub data-outside : (l : Link) (reply own : List ℕ) (b : ℕ) {x : Stepped} {left : List ℕ} → l .doing ≡ Quiet → Reply-byte-done l reply b x left → Data-done l reply own b x left own
@@ -325,7 +458,7 @@ module _ (l : Link) (reply own : List ℕ) (raw : ℕ) where
 
   -- what a live link gives is what `step` promises
   live : {p : Piece} {x : Stepped} {reply-left own-left : List ℕ} → usableOf l ≡ true → pieceOf (l .escape) raw ≡ p →
-      Met l reply (pieceLent own (doingOf l own) p) (rules.pieceSeen (doingOf l own) p) x reply-left own-left → Step-done l reply own raw x reply-left own-left
+      Met l reply (pieceLent own (doingOf l own) p) (rules.pieceSeen (nestOf (l .nested)) (doingOf l own) p) x reply-left own-left → Step-done l reply own raw x reply-left own-left
   unfolding rules.step rules.look replyAfter ownAfter
   live u e g = record {
     answer = rw (u, e) (ap (λ (s : rules.Step). s .report) (g .step-is));

@@ -1,16 +1,19 @@
 -- What the parts of a step promise.
-use Prim.Native.Nat.{ℕ}
+use Prim.Native.Nat.{ℕ, _+_, _*_}
 use mathlib.Core.Path.{_≡_}
 use mathlib.Core.Bool.{true, false, cond}
 use mathlib.Core.List.{List}
-use lib.Dec.{eqb}
 use lib.ListN.{take}
 use Rattle.serial_rules.specs.Fields.{at}
 use Rattle.serial_rules.specs.Link as rules
+use Rattle.serial_rules.specs.Nest.{nestOf}
+use Rattle.actions.specs.Actions.{targetFor, actionFor}
+use Rattle.actions.specs.declared.Target.{Target}
+use Rattle.actions.specs.declared.Target.the-variants.{Set, Execute, Load, Save}
+use Rattle.actions.specs.declared.Action.{Action}
+use Rattle.actions.specs.declared.Action.the-variants.{Error, Event, Address, Block}
 use Rattle.link.specs.declared.Wait.{Wait}
 use Rattle.link.specs.declared.Wait.the-variants.{Idle, Waiting}
-use Rattle.link.specs.declared.Action.{Action}
-use Rattle.link.specs.declared.Action.the-variants.{Error, Event, Address}
 use Rattle.link.specs.declared.Doing.{Doing}
 use Rattle.link.specs.declared.Doing.the-variants.{Quiet}
 use Rattle.link.specs.declared.Link.{Link}
@@ -32,18 +35,27 @@ busyWith (Waiting kind) = 12
 abbrev pub barredBy : Link → ℕ
 barredBy l = cond (usableOf l) (busyWith (l .wait)) 7
 
--- what a step leaves: the record stopped; an escape seen; the reply at its place; or no action open
+-- what a step leaves: the record stopped; an escape seen; the reply at its place; another transfer innermost; or no action and no transfer open
 abbrev pub refusedFrom : Link → ℕ → Stepped
 refusedFrom l n = record { answer = variant.Refused n; link = stoppedFrom l }
 
 abbrev pub pausedFrom : Link → Stepped
-pausedFrom l = record { answer = variant.More; link = record { wait = l .wait; got = l .got; escape = true; doing = l .doing; held = l .held; stopped = false } }
+pausedFrom l = record { answer = variant.More; link = record { wait = l .wait; got = l .got; escape = true; doing = l .doing; held = l .held; nested = l .nested; stopped = false } }
 
 abbrev pub goingFrom : Link → Answer → Doing → ℕ → Stepped
-goingFrom l a d n = record { answer = a; link = record { wait = l .wait; got = l .got; escape = false; doing = d; held = n; stopped = false } }
+goingFrom l a d n = record { answer = a; link = record { wait = l .wait; got = l .got; escape = false; doing = d; held = n; nested = l .nested; stopped = false } }
+
+abbrev pub nestingFrom : Link → Answer → ℕ → Stepped
+nestingFrom l a n = record { answer = a; link = record { wait = l .wait; got = l .got; escape = false; doing = Quiet; held = 0; nested = n; stopped = false } }
+
+abbrev pub placedFrom : Link → Target → Answer → Stepped
+placedFrom l Set a = goingFrom l a Quiet 0
+placedFrom l Execute a = goingFrom l a Quiet 0
+placedFrom l Load a = nestingFrom l a (2 * l .nested + 1)
+placedFrom l Save a = nestingFrom l a (2 * l .nested + 2)
 
 abbrev pub restingWith : Answer → Wait → ℕ → Stepped
-restingWith a w n = record { answer = a; link = record { wait = w; got = n; escape = false; doing = Quiet; held = 0; stopped = false } }
+restingWith a w n = record { answer = a; link = record { wait = w; got = n; escape = false; doing = Quiet; held = 0; nested = 0; stopped = false } }
 
 -- the frame and what the actions do, of a record with its lent bytes
 abbrev pub frameOf : Link → List ℕ → rules.Frame
@@ -71,19 +83,28 @@ abbrev pub Met : Link → List ℕ → List ℕ → rules.Seen → Stepped → L
 Met l reply own-after s r reply-left own-left =
     Link-gives l (seenStep (frameOf l reply) s) (tokenLent reply (frameOf l reply) (s .token)) own-after r reply-left own-left
 
--- a mark, whatever bytes are lent: any, and one outside an action
+-- a mark, whatever bytes are lent: any; one outside an action, by what it means
 abbrev pub Mark-done : Link → ℕ → Stepped → Type 0
-Mark-done l m r = (reply own : List ℕ) → Met l reply own (rules.markSeen (doingOf l own) m) r reply own
+Mark-done l m r = (reply own : List ℕ) → Met l reply own (rules.markSeen (nestOf (l .nested)) (doingOf l own) m) r reply own
+
+abbrev pub Outside-done : Link → rules.Meaning → Stepped → Type 0
+Outside-done l w r = (reply own : List ℕ) → Met l reply own (rules.markOutside (nestOf (l .nested)) w) r reply own
 
 abbrev pub Opening-done : Link → ℕ → Stepped → Type 0
-Opening-done l m r = (reply own : List ℕ) → Met l reply own (rules.markOutside m) r reply own
+Opening-done l m r = Outside-done l (rules.meaningOf m) r
+
+abbrev pub Start-done : Link → Action → Stepped → Type 0
+Start-done l a r = Outside-done l (rules.starts (actionFor a)) r
+
+abbrev pub Closing-done : Link → Stepped → Type 0
+Closing-done l r = Outside-done l rules.end r
 
 -- a data byte: any, one outside an action, and one of an open action's own
 abbrev pub Data-done : Link → List ℕ → List ℕ → ℕ → Stepped → List ℕ → List ℕ → Type 0
-Data-done l reply own b r reply-left own-left = Met l reply (doingLent own (doingOf l own) b) (rules.dataSeen (doingOf l own) b) r reply-left own-left
+Data-done l reply own b r reply-left own-left = Met l reply (doingLent own (doingOf l own) b) (rules.dataSeen (nestOf (l .nested)) (doingOf l own) b) r reply-left own-left
 
 abbrev pub Reply-byte-done : Link → List ℕ → ℕ → Stepped → List ℕ → Type 0
-Reply-byte-done l reply b r reply-left = (own : List ℕ) → Met l reply own (rules.dataSeen rules.none b) r reply-left own
+Reply-byte-done l reply b r reply-left = (own : List ℕ) → Met l reply own (rules.dataSeen (nestOf (l .nested)) rules.none b) r reply-left own
 
 abbrev pub Own-done : Link → List ℕ → ℕ → Stepped → List ℕ → Type 0
 Own-done l own b r own-left = (reply : List ℕ) → Data-done l reply own b r reply own-left
@@ -92,10 +113,8 @@ Own-done l own b r own-left = (reply : List ℕ) → Data-done l reply own b r r
 abbrev pub finishAt : Action → ℕ → List ℕ → rules.Token
 finishAt Error n own = rules.failed (rules.failureOf (take n own))
 finishAt Event n own = rules.acted (rules.event (at own 0) (at own 1) (at own 2))
-finishAt Address n own = rules.acted (rules.address (at own 0) (at own 1) (at own 2) (at own 3))
+finishAt (Address t) n own = rules.acted (rules.address (targetFor t) (at own 0) (at own 1) (at own 2) (at own 3))
+finishAt (Block k) n own = rules.acted (rules.block (take (n + 1) own))
 
 abbrev pub Finished-done : Link → Action → List ℕ → Stepped → Type 0
-Finished-done l a own r = (reply : List ℕ) → Met l reply own (rules.seen (finishAt a (l .held) own) (rules.layer false rules.none)) r reply own
-
-abbrev pub failureFor : ℕ → ℕ → Answer
-failureFor n k = cond (eqb n 0) (cond (eqb k 0) variant.Restart (variant.Error n k)) (variant.Error n k)
+Finished-done l a own r = (reply : List ℕ) → Met l reply own (rules.seen (finishAt a (l .held) own) (rules.layer false rules.none (rules.opened (actionFor a) (nestOf (l .nested))))) r reply own

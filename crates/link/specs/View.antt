@@ -1,20 +1,25 @@
 -- How a link record with its lent bytes stands for the rules' link, and what a begun call and a step promise.
-use Prim.Native.Nat.{ℕ}
+use Prim.Native.Nat.{ℕ, _+_, _-_}
 use mathlib.Core.Path.{_≡_}
 use mathlib.Core.Bool.{Bool, true, false, cond, not, _&&_}
 use mathlib.Core.List.{List}
-use lib.Dec.{ltb}
+use lib.Dec.{eqb, ltb}
 use lib.ListN.{length, take, drop}
 use Rattle.serial_rules.specs.Escape as escape
 use Rattle.serial_rules.specs.Lent.{turnLent}
+use Rattle.serial_rules.specs.Fields.{at}
 use Rattle.serial_rules.specs.Reply.{shapeOf, shapeTurn, longest}
 use Rattle.serial_rules.specs.Link as rules
+use Rattle.serial_rules.specs.Nest.{nestOf}
+use Rattle.actions.specs.Actions.{targetFor, actionFor, opensTransfer}
+use Rattle.actions.specs.declared.Target.{Target}
+use Rattle.actions.specs.declared.Target.the-variants.{Set, Execute, Load, Save}
+use Rattle.actions.specs.declared.Action.{Action}
+use Rattle.actions.specs.declared.Action.the-variants.{Error, Event, Address, Block}
 use Rattle.kind.specs.Kinds.{kindFor}
 use Rattle.kind.specs.declared.CallKind.{CallKind}
 use Rattle.link.specs.declared.Wait.{Wait}
 use Rattle.link.specs.declared.Wait.the-variants.{Idle, Waiting}
-use Rattle.link.specs.declared.Action.{Action}
-use Rattle.link.specs.declared.Action.the-variants.{Error, Event, Address}
 use Rattle.link.specs.declared.Doing.{Doing}
 use Rattle.link.specs.declared.Doing.the-variants.{Quiet, Open}
 use Rattle.link.specs.declared.Link.{Link}
@@ -29,11 +34,6 @@ abbrev pub waitFor : Wait → rules.Wait
 waitFor Idle = rules.idle
 waitFor (Waiting kind) = rules.waiting (kindFor kind)
 
-abbrev pub actionFor : Action → rules.Action
-actionFor Error = rules.failing
-actionFor Event = rules.signal
-actionFor Address = rules.place
-
 abbrev pub doingFor : Doing → List ℕ → rules.Doing
 doingFor Quiet h = rules.none
 doingFor (Open a) h = rules.own (actionFor a) h
@@ -45,11 +45,17 @@ replyRoom (Waiting kind) = longest (shapeOf (kindFor kind))
 
 abbrev pub ownRoom : Doing → ℕ
 ownRoom Quiet = 1
-ownRoom (Open a) = longest (rules.ownShape (actionFor a))
+ownRoom (Open a) = rules.ownMost (actionFor a)
 
--- "one whose record exceeds its limits counts as stopped": a count is below the most that its kind or its action needs
+-- the number of the open transfers: below 31 there are at most four of them, and below 15 at most three, so that an action may open one more
+abbrev pub nestRoom : Doing → ℕ
+nestRoom Quiet = 31
+nestRoom (Open a) = cond (opensTransfer a) 15 31
+
+-- "one whose record exceeds its limits counts as stopped": a count is below the most that its kind or its action needs, and no more transfers are
+-- open than there can be
 unfoldable pub usableOf : Link → Bool
-usableOf l = not (l .stopped) && (ltb (l .got) (replyRoom (l .wait)) && ltb (l .held) (ownRoom (l .doing)))
+usableOf l = not (l .stopped) && (ltb (l .got) (replyRoom (l .wait)) && (ltb (l .held) (ownRoom (l .doing)) && ltb (l .nested) (nestRoom (l .doing))))
 
 -- the bytes lent for an action's own
 abbrev pub ownLent : ℕ
@@ -59,32 +65,62 @@ ownLent = 257
 abbrev pub viewOf : Link → List ℕ → List ℕ → rules.Link
 viewOf l reply own =
     cond (usableOf l)
-    (rules.live (rules.layer (l .escape) (doingFor (l .doing) (take (l .held) own))) (rules.frame (waitFor (l .wait)) (take (l .got) reply)))
+    (rules.live (rules.layer (l .escape) (doingFor (l .doing) (take (l .held) own)) (nestOf (l .nested))) (rules.frame (waitFor (l .wait)) (take (l .got) reply)))
     rules.stopped
 
--- each answer's number and values; a finished reply is the first bytes of the lent reply, an error's text follows its number in the other bytes
+-- each answer's number and values; a finished reply is the first bytes of the lent reply, a control block the first of the other bytes, and an error's
+-- text follows its number there
+abbrev pub transferFor : Bool → rules.Transfer
+transferFor save = cond save rules.save rules.load
+
 abbrev pub reportOf : Answer → List ℕ → List ℕ → rules.Report
 reportOf variant.More reply own = rules.needMore
 reportOf (variant.Character b) reply own = rules.character b
 reportOf (variant.Reply n) reply own = rules.reply (take n reply)
 reportOf (variant.EscapeState on) reply own = rules.escapeState on
 reportOf (variant.Event y x a) reply own = rules.event y x a
-reportOf (variant.Address b3 b2 b1 b0) reply own = rules.address b3 b2 b1 b0
+reportOf (variant.Address t b3 b2 b1 b0) reply own = rules.address (targetFor t) b3 b2 b1 b0
+reportOf (variant.Block n) reply own = rules.block (take n own)
+reportOf (variant.Loaded b) reply own = rules.loaded b
+reportOf (variant.Ended save) reply own = rules.ended (transferFor save)
 reportOf (variant.Error n k) reply own = rules.error n (take k (drop 1 own))
 reportOf variant.Restart reply own = rules.restart
 reportOf (variant.Refused n) reply own = rules.refusal n
 
--- each report's answer: a finished reply and an error's text stand in the lent bytes, and the answer has their lengths
+-- each report's answer: a finished reply, a control block and an error's text stand in the lent bytes, and the answer has their lengths
+abbrev pub targetBack : rules.Target → Target
+targetBack rules.setting = Set
+targetBack rules.executing = Execute
+targetBack (rules.opening rules.load) = Load
+targetBack (rules.opening rules.save) = Save
+
+abbrev pub isSave : rules.Transfer → Bool
+isSave rules.load = false
+isSave rules.save = true
+
 abbrev pub answerFor : rules.Report → Answer
 answerFor rules.needMore = variant.More
 answerFor (rules.character b) = variant.Character b
 answerFor (rules.reply s) = variant.Reply (length s)
 answerFor (rules.escapeState on) = variant.EscapeState on
 answerFor (rules.event y x a) = variant.Event y x a
-answerFor (rules.address b3 b2 b1 b0) = variant.Address b3 b2 b1 b0
+answerFor (rules.address t b3 b2 b1 b0) = variant.Address (targetBack t) b3 b2 b1 b0
+answerFor (rules.block h) = variant.Block (length h)
+answerFor (rules.loaded b) = variant.Loaded b
+answerFor (rules.ended t) = variant.Ended (isSave t)
 answerFor (rules.error n t) = variant.Error n (length t)
 answerFor rules.restart = variant.Restart
 answerFor (rules.refusal n) = variant.Refused n
+
+-- what an action with all its bytes tells: n of them and the last one are the first of the bytes lent for its own. "error 0 with empty text is a restart"
+abbrev pub failureFor : ℕ → ℕ → Answer
+failureFor n k = cond (eqb n 0) (cond (eqb k 0) variant.Restart (variant.Error n k)) (variant.Error n k)
+
+abbrev pub toldBy : Action → ℕ → List ℕ → Answer
+toldBy Error n own = failureFor (at own 0) (n - 1)
+toldBy Event n own = variant.Event (at own 0) (at own 1) (at own 2)
+toldBy (Address t) n own = variant.Address t (at own 0) (at own 1) (at own 2) (at own 3)
+toldBy (Block k) n own = variant.Block (n + 1)
 
 -- every byte of the lent reply after a raw byte: a data byte that the waiting call takes stands behind the bytes so far
 abbrev pub waitLent : List ℕ → rules.Wait → List ℕ → ℕ → List ℕ
@@ -118,14 +154,14 @@ ownAfter (rules.live l f) raw own = pieceLent own (l .doing) (escape.pieceOf (l 
 
 -- the record of a fresh link
 abbrev pub fresh : Link
-fresh = record { wait = Idle; got = 0; escape = false; doing = Quiet; held = 0; stopped = false }
+fresh = record { wait = Idle; got = 0; escape = false; doing = Quiet; held = 0; nested = 0; stopped = false }
 
 -- the record with its link stopped, and with a call that waits
 abbrev pub stoppedFrom : Link → Link
-stoppedFrom l = record { wait = l .wait; got = l .got; escape = l .escape; doing = l .doing; held = l .held; stopped = true }
+stoppedFrom l = record { wait = l .wait; got = l .got; escape = l .escape; doing = l .doing; held = l .held; nested = l .nested; stopped = true }
 
 abbrev pub waitingFrom : Link → CallKind → Link
-waitingFrom l kind = record { wait = Waiting kind; got = 0; escape = l .escape; doing = l .doing; held = l .held; stopped = l .stopped }
+waitingFrom l kind = record { wait = Waiting kind; got = 0; escape = l .escape; doing = l .doing; held = l .held; nested = l .nested; stopped = l .stopped }
 
 abbrev pub begunOf : Begun → rules.Begun
 begunOf Waits = rules.begun

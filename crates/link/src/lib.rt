@@ -1,31 +1,28 @@
-// The client's end of the serial lead: a link is idle or waits for the reply to one call, and actions may come inside it.
+// The client's end of the serial lead: a link is idle or waits for the reply to one call, and actions and transfers may come inside it.
+use actions::Action;
+use actions::Meaning;
+use actions::Target;
 use escape::Piece;
 use kind::CallKind;
-use shapes::Shape;
 use turns::Turn;
-ghost use Prim.Native.Nat.{_<_, _≤_};
+ghost use Prim.Native.Nat.{_-_, _<_, _≤_};
 ghost use mathlib.Core.Path.{_≡_};
 ghost use mathlib.Core.Bool.{true};
 ghost use lib.ListN.{length};
-ghost use Rattle.serial_rules.specs.Link.{ownShape};
-ghost use Rattle.shapes.specs.Shapes.{shapeFor};
+ghost use Rattle.serial_rules.specs.Link.{mayStart};
+ghost use Rattle.serial_rules.specs.Nest.{nestOf};
+ghost use Rattle.actions.specs.Actions.{actionFor};
+ghost use Rattle.actions.specs.declared.Action.the-variants.{Error, Address};
 ghost use Rattle.link.specs.declared.Wait.the-variants.{Waiting};
 ghost use Rattle.link.specs.declared.Doing.the-variants.{Open};
 ghost use Rattle.kind.specs.Kinds.{replyLent};
-ghost use Rattle.link.specs.View.{actionFor, replyRoom, ownRoom, usableOf, ownLent, fresh, Begin-done, Begin-none-done, Step-done};
-ghost use Rattle.link.specs.Parts.{begunFrom, barredBy, refusedFrom, pausedFrom, goingFrom, restingWith, Mark-done, Opening-done, Data-done, Reply-byte-done, Own-done, Finished-done, failureFor};
+ghost use Rattle.link.specs.View.{replyRoom, ownRoom, nestRoom, usableOf, ownLent, toldBy, failureFor, fresh, Begin-done, Begin-none-done, Step-done};
+ghost use Rattle.link.specs.Parts.{begunFrom, barredBy, refusedFrom, pausedFrom, goingFrom, nestingFrom, restingWith, Mark-done, Opening-done, Start-done, Closing-done, Data-done, Reply-byte-done, Own-done, Finished-done, placedFrom};
 
 // What waits: nothing, or one call of a kind.
 pub enum Wait {
     Idle,
     Waiting(CallKind),
-}
-
-// The actions that have bytes of their own.
-pub enum Action {
-    Error,
-    Event,
-    Address,
 }
 
 // What the actions do: nothing, or one of them is open.
@@ -35,27 +32,47 @@ pub enum Doing {
 }
 
 // A link. The reply so far is the first `got` bytes of the lent reply, the open action's own bytes the first `held` of the other lent bytes.
-// A record over its limits counts as stopped.
+// `nested` is the open transfers: 0 where none is open, 2n + 1 for a load inside those of n, 2n + 2 for a save. A record over its limits counts
+// as stopped.
 pub struct Link {
     pub wait: Wait,
     pub got: u16,
     pub escape: bool,
     pub doing: Doing,
     pub held: u16,
+    pub nested: u8,
     pub stopped: bool,
 }
 
 // What a raw byte gives: more is needed; a character; a finished reply, the first bytes of the lent reply; the Escape state; an event; an
-// address, high byte first; an error, whose text stands in the other lent bytes from the second on; a restart; or a refusal by document
-// 01's number.
+// address and what it is for, high byte first; a control block, the first bytes of the other lent bytes; a byte of load data; the end of a
+// load or save; an error, whose text stands in the other lent bytes from the second on; a restart; or a refusal by document 01's number.
 pub enum Answer {
     More,
     Character(u8),
     Reply(usize),
     EscapeState(bool),
-    Event { y: u8, x: u8, a: u8 },
-    Address { b3: u8, b2: u8, b1: u8, b0: u8 },
-    Error { number: u8, length: usize },
+    Event {
+        y: u8,
+        x: u8,
+        a: u8,
+    },
+    Address {
+        target: Target,
+        b3: u8,
+        b2: u8,
+        b1: u8,
+        b0: u8,
+    },
+    Block(usize),
+    Loaded(u8),
+    Ended {
+        save: bool,
+    },
+    Error {
+        number: u8,
+        length: usize,
+    },
     Restart,
     Refused(u8),
 }
@@ -91,6 +108,7 @@ impl Link {
             escape: false,
             doing: Doing::Quiet,
             held: 0,
+            nested: 0,
             stopped: false,
         }
     }
@@ -122,6 +140,7 @@ impl Link {
                 escape: self.escape,
                 doing: doing,
                 held: self.held,
+                nested: self.nested,
                 stopped: self.stopped,
             },
         }
@@ -197,7 +216,9 @@ impl Link {
         let got = self.got as usize;
         let held = self.held as usize;
         if got < reply_room(wait) {
-            return held < own_room(doing);
+            if held < own_room(doing) {
+                return self.nested < nest_room(doing);
+            }
         }
         false
     }
@@ -216,6 +237,7 @@ impl Link {
                 escape: true,
                 doing: doing,
                 held: self.held,
+                nested: self.nested,
                 stopped: false,
             },
         }
@@ -233,36 +255,77 @@ impl Link {
         }
     }
 
-    // A mark outside an action, by its class.
+    // A mark outside an action, by what it means.
     fn opening(self, m: u8) -> Stepped
         requires { ⌜ usableOf self ≡ true ⌝ }
         ensures { λ r. ⌜ Opening-done self m r ⌝ }
     {
-        let class = marks::inward_class(m);
-        match class {
-            1 => self.going(Answer::More, Doing::Open(Action::Error), 0),
-            2 => self.going(Answer::EscapeState(m % 2 == 1), Doing::Quiet, 0),
-            3 => self.going(Answer::More, Doing::Open(Action::Event), 0),
-            4 => self.going(Answer::More, Doing::Open(Action::Address), 0),
-            _ => self.refused(4),
+        let meaning = Meaning::of(m);
+        match meaning {
+            Meaning::Unknown => self.refused(4),
+            Meaning::State(on) => self.going(Answer::EscapeState(on), Doing::Quiet, 0),
+            Meaning::End => self.closing(),
+            Meaning::Starts(action) => self.starting(action),
         }
     }
 
-    // A data byte: of the open action, or else of the reply.
+    // An action starts, unless it would open a fifth transfer.
+    fn starting(self, action: Action) -> Stepped
+        requires { ⌜ (usableOf self ≡ true) × (0 < ownRoom (Open action)) ⌝ }
+        ensures { λ r. ⌜ Start-done self action r ⌝ }
+    {
+        if may_start(self.nested, action) {
+            return self.going(Answer::More, Doing::Open(action), 0);
+        }
+        self.refused(13)
+    }
+
+    // The end of the innermost transfer.
+    fn closing(self) -> Stepped
+        requires { ⌜ usableOf self ≡ true ⌝ }
+        ensures { λ r. ⌜ Closing-done self r ⌝ }
+    {
+        let nested = self.nested;
+        if nested == 0 {
+            return self.refused(5);
+        }
+        self.nesting(
+            Answer::Ended {
+                save: nested % 2 == 0,
+            },
+            (nested - 1) / 2,
+        )
+    }
+
+    // A data byte: of the open action; else of the innermost transfer, where a save takes none; else of the reply.
     fn data_step(self, b: u8, reply: &mut [u8], own: &mut [u8]) -> Stepped
         requires { ⌜ (usableOf self ≡ true) × (self .got < replyLent) × (self .held < ownLent) × (length (now reply) ≡ replyLent) × (length (now own) ≡ ownLent) ⌝ }
         ensures { λ r. ⌜ Data-done self (now (reply .entry)) (now (own .entry)) b r (now (reply .exit)) (now (own .exit)) ⌝ }
     {
         let doing = self.doing;
         match doing {
-            Doing::Quiet => self.reply_step(b, reply),
+            Doing::Quiet => self.outer_step(b, reply),
             Doing::Open(action) => self.own_step(action, b, own),
         }
     }
 
-    // A data byte outside an action goes by what waits.
-    fn reply_step(self, b: u8, reply: &mut [u8]) -> Stepped
+    fn outer_step(self, b: u8, reply: &mut [u8]) -> Stepped
         requires { ⌜ (usableOf self ≡ true) × (self .got < replyLent) × (length (now reply) ≡ replyLent) ⌝ }
+        ensures { λ r. ⌜ Reply-byte-done self (now (reply .entry)) b r (now (reply .exit)) ⌝ }
+    {
+        let nested = self.nested;
+        if nested == 0 {
+            return self.reply_step(b, reply);
+        }
+        if nested % 2 == 1 {
+            return self.going(Answer::Loaded(b), Doing::Quiet, 0);
+        }
+        self.refused(9)
+    }
+
+    // A data byte outside every action and transfer goes by what waits.
+    fn reply_step(self, b: u8, reply: &mut [u8]) -> Stepped
+        requires { ⌜ (usableOf self ≡ true) × (self .nested ≡ 0) × (self .got < replyLent) × (length (now reply) ≡ replyLent) ⌝ }
         ensures { λ r. ⌜ Reply-byte-done self (now (reply .entry)) b r (now (reply .exit)) ⌝ }
     {
         let wait = self.wait;
@@ -274,7 +337,7 @@ impl Link {
 
     // A byte of the reply that a call of this kind waits for.
     fn taking(self, kind: CallKind, b: u8, reply: &mut [u8]) -> Stepped
-        requires { ⌜ (self .wait ≡ Waiting kind) × (self .got < replyLent) × (length (now reply) ≡ replyLent) ⌝ }
+        requires { ⌜ (self .wait ≡ Waiting kind) × (self .nested ≡ 0) × (self .got < replyLent) × (length (now reply) ≡ replyLent) ⌝ }
         ensures { λ r. ⌜ Reply-byte-done self (now (reply .entry)) b r (now (reply .exit)) ⌝ }
     {
         let got = self.got;
@@ -300,7 +363,7 @@ impl Link {
     {
         let held = self.held;
         let at = held as usize;
-        let turn = own_shape(action).turn(at, b);
+        let turn = action.shape().turn(at, b);
         match turn {
             Turn::Refused(n) => self.refused(n),
             Turn::More => {
@@ -314,35 +377,31 @@ impl Link {
         }
     }
 
-    // The open action has all its bytes. An error or restart ends the call that waits.
+    // The open action has all its bytes. An error or restart closes every transfer and ends the call that waits.
     fn finished(self, action: Action, own: &[u8]) -> Stepped
-        requires { ⌜ (usableOf self ≡ true) × (1 ≤ self .held) × (self .held < ownLent) × (length (now own) ≡ ownLent) ⌝ }
+        requires { ⌜ (usableOf self ≡ true) × (action ≡ Error → 1 ≤ self .held) × (self .nested < nestRoom (Open action)) × (self .held < ownLent) × (length (now own) ≡ ownLent) ⌝ }
         ensures { λ r. ⌜ Finished-done self action (now (own .entry)) r ⌝ }
     {
+        let answer = told_by(action, self.held, own);
         match action {
-            Action::Error => {
-                let held = self.held as usize;
-                resting(failure(own[0], held - 1), Wait::Idle, 0)
-            }
-            Action::Event => self.going(
-                Answer::Event {
-                    y: own[0],
-                    x: own[1],
-                    a: own[2],
-                },
-                Doing::Quiet,
-                0,
-            ),
-            Action::Address => self.going(
-                Answer::Address {
-                    b3: own[0],
-                    b2: own[1],
-                    b1: own[2],
-                    b0: own[3],
-                },
-                Doing::Quiet,
-                0,
-            ),
+            Action::Error => resting(answer, Wait::Idle, 0),
+            Action::Event => self.going(answer, Doing::Quiet, 0),
+            Action::Address(target) => self.placed(target, answer),
+            Action::Block(_) => self.going(answer, Doing::Quiet, 0),
+        }
+    }
+
+    // Four address bytes: those of a load or save open it.
+    fn placed(self, target: Target, answer: Answer) -> Stepped
+        requires { ⌜ self .nested < nestRoom (Open (Address target)) ⌝ }
+        ensures { λ r. ⌜ r ≡ placedFrom self target answer ⌝ }
+    {
+        let nested = self.nested;
+        match target {
+            Target::Set => self.going(answer, Doing::Quiet, 0),
+            Target::Execute => self.going(answer, Doing::Quiet, 0),
+            Target::Load => self.nesting(answer, 2 * nested + 1),
+            Target::Save => self.nesting(answer, 2 * nested + 2),
         }
     }
 
@@ -359,6 +418,26 @@ impl Link {
                 escape: false,
                 doing: doing,
                 held: held,
+                nested: self.nested,
+                stopped: false,
+            },
+        }
+    }
+
+    // An answer that opens or closes a transfer, with those that are open after it.
+    fn nesting(self, answer: Answer, nested: u8) -> Stepped
+        ensures { λ r. ⌜ r ≡ nestingFrom self answer nested ⌝ }
+    {
+        let wait = self.wait;
+        Stepped {
+            answer: answer,
+            link: Link {
+                wait: wait,
+                got: self.got,
+                escape: false,
+                doing: Doing::Quiet,
+                held: 0,
+                nested: nested,
                 stopped: false,
             },
         }
@@ -378,13 +457,14 @@ impl Link {
                 escape: self.escape,
                 doing: doing,
                 held: self.held,
+                nested: self.nested,
                 stopped: true,
             },
         }
     }
 }
 
-// An answer outside an action, with what waits after it and the number of its reply bytes.
+// An answer outside every action and transfer, with what waits after it and the number of its reply bytes.
 fn resting(answer: Answer, wait: Wait, got: u16) -> Stepped
     ensures { λ r. ⌜ r ≡ restingWith answer wait got ⌝ }
 {
@@ -396,6 +476,7 @@ fn resting(answer: Answer, wait: Wait, got: u16) -> Stepped
             escape: false,
             doing: Doing::Quiet,
             held: 0,
+            nested: 0,
             stopped: false,
         },
     }
@@ -417,19 +498,66 @@ fn own_room(doing: Doing) -> usize
 {
     match doing {
         Doing::Quiet => 1,
-        Doing::Open(action) => own_shape(action).longest(),
+        Doing::Open(action) => action.most(),
     }
 }
 
-// How the own bytes of an action end.
-fn own_shape(action: Action) -> Shape
-    ensures { λ r. ⌜ shapeFor r ≡ ownShape (actionFor action) ⌝ }
+// The number of open transfers is below this one: four of them, and three while the address of another is read.
+fn nest_room(doing: Doing) -> u8
+    ensures { λ r. ⌜ r ≡ nestRoom doing ⌝ }
+{
+    match doing {
+        Doing::Quiet => 31,
+        Doing::Open(action) => {
+            if action.opens_transfer() {
+                return 15;
+            }
+            31
+        }
+    }
+}
+
+// Whether an action may start where the transfers of a number are open: at most four may be.
+fn may_start(nested: u8, action: Action) -> bool
+    requires { ⌜ nested ≤ 30 ⌝ }
+    ensures { λ r. ⌜ r ≡ mayStart (actionFor action) (nestOf nested) ⌝ }
+{
+    if action.opens_transfer() {
+        return nested < 15;
+    }
+    true
+}
+
+// What an action with all its bytes tells: `held` of them and the last one are the first of the bytes lent for its own.
+pub fn told_by(action: Action, held: u16, own: &[u8]) -> Answer
+    ensures { λ r. ⌜ r ≡ toldBy action held (now (own .entry)) ⌝ }
 {
     match action {
-        Action::Error => Shape::Text,
-        Action::Event => Shape::Fixed(3),
-        Action::Address => Shape::Fixed(4),
+        Action::Error => failure(places::byte_at(own, 0), text_length(held)),
+        Action::Event => Answer::Event {
+            y: places::byte_at(own, 0),
+            x: places::byte_at(own, 1),
+            a: places::byte_at(own, 2),
+        },
+        Action::Address(target) => Answer::Address {
+            target: target,
+            b3: places::byte_at(own, 0),
+            b2: places::byte_at(own, 1),
+            b1: places::byte_at(own, 2),
+            b0: places::byte_at(own, 3),
+        },
+        Action::Block(_) => Answer::Block(held as usize + 1),
     }
+}
+
+// The text of an error stands behind its number.
+fn text_length(held: u16) -> usize
+    ensures { λ r. ⌜ r ≡ held - 1 ⌝ }
+{
+    if held == 0 {
+        return 0;
+    }
+    held as usize - 1
 }
 
 // Error 0 with an empty text is a restart.

@@ -1,2 +1,4 @@
+pub mod Data
 pub mod Notes
 pub mod Plains
+pub mod Loads

@@ -1,43 +1,34 @@
 -- The loop: what it has passed over so far, one step more, and what it promises where it ends.
 use Prim.Native.Nat.{ℕ, zero, suc, _+_, _-_, _*_, _/_, _≤_, _<_}
-use mathlib.Core.Path.{_≡_, refl, sym, ap, _∙_}
-use mathlib.Core.Bool.{true, false, not}
-use mathlib.Core.List.{List, [], _∷_, _++_, append-assoc, append-nil}
+use mathlib.Core.Path.{_≡_, refl, sym, ap, subst, _∙_}
+use mathlib.Core.Bool.{Bool, true, false, not, _||_}
+use mathlib.Core.List.{List, [], _∷_, _++_, map, append-nil}
 use native.Mathlib.Omega.{arith}
 use native.Mathlib.Numerals.{add-one}
-use lib.ListN.{length, getD, take, drop, set, replicate, length-take, length-drop}
-use lib.Seq.{sets-eq, take-suc, take-all, take-add}
-use borrow.Author.Tests.{not-true, not-false}
-use Rattle.escape.specs.Put.{Put}
-use Rattle.escape.proofs.Laws.{put-none, put-tail}
+use lib.Dec.{ltb}
+use lib.ListN.{length, getD, take, drop, replicate, length-take, length-drop}
+use lib.Seq.{length-take-le, take-suc, take-all, take-add}
+use borrow.Author.Tests.{not-true, not-false, ltb-true, ltb-false, lt-ltb, le-ltb, le-leb}
+use Rattle.escape.specs.Put.{over}
 use Rattle.serial_rules.specs.Link as rules
+use Rattle.serial_rules.specs.Record.{passes}
 use Rattle.link.specs.declared.Link.{Link}
 use Rattle.link.specs.declared.Answer.{Answer}
 use Rattle.link.specs.declared.Answer.the-variants as variant
 use Rattle.link.specs.declared.Stepped.{Stepped}
+use Rattle.link.specs.View.{ownLent, viewOf, reportOf, answerFor, Step-done}
+use Rattle.notes.specs.declared.Log.{Log}
+use Rattle.notes.specs.Notes.{nothing, addsAll, notesOf, dataOf}
+use Rattle.notes.specs.Logs.{fresh, Holds, dataIn, mostCount, countable, Add-done}
+use Rattle.notes.proofs.Laws.{holds-nothing}
+use Rattle.notes.proofs.Counts.{contentIn, data-counted, adds-append, adds-snoc, adds-quiet, notes-most}
 use Rattle.link_loop.specs.declared.Ran.{Ran}
-use Rattle.link.specs.View.{reportOf, answerFor, Step-done}
-use Rattle.link_loop.specs.Run.{Runs, stop, took, passes, Passed, none, next, noteOf, notes, lastOf, Ran-done, Run-done}
-use Rattle.link_loop.specs.Parts.{endedFrom, endsOf, noteFor, passedFrom, Pass-done}
+use Rattle.link_loop.specs.declared.Over.{Over}
+use Rattle.link_loop.specs.Run.{Runs, stop, took, Passed, none, next, lastOf, lacksRoom, Ran-done, Run-done}
+use Rattle.link_loop.specs.Parts.{endedFrom, endsOf, passedFrom, Pass-done, Load-pass-done, Over-done}
+use Rattle.link_loop.proofs.Data.{step-data, view-held, data-short, runs-data, runs-length}
 
--- five bytes stored at the start
-pub set-five : (out : List ℕ) (a b c d e : ℕ) → 5 ≤ length out
-    → Put (a ∷ b ∷ c ∷ d ∷ e ∷ []) out (set (set (set (set (set out 0 a) 1 b) 2 c) 3 d) 4 e) 5
-set-five out a b c d e h = record { count = refl; bytes = sets-eq (a ∷ b ∷ c ∷ d ∷ e ∷ []) out 0 (omega arith); room = h }
-
--- neither the note of a report nor whether it is passed over asks for the lent bytes
-note-lent : (a : Answer) (reply own : List ℕ) → noteOf (reportOf a reply own) ≡ noteFor a
-unfolding noteOf
-note-lent variant.More reply own = refl
-note-lent (variant.Character b) reply own = refl
-note-lent (variant.Reply n) reply own = refl
-note-lent (variant.EscapeState on) reply own = refl
-note-lent (variant.Event y x a) reply own = refl
-note-lent (variant.Address b3 b2 b1 b0) reply own = refl
-note-lent (variant.Error n k) reply own = refl
-note-lent variant.Restart reply own = refl
-note-lent (variant.Refused n) reply own = refl
-
+-- whether a report is passed over does not ask for the lent bytes
 pub ends-lent : (a : Answer) (reply own : List ℕ) → not (passes (reportOf a reply own)) ≡ endsOf a
 unfolding passes
 ends-lent variant.More reply own = refl
@@ -45,45 +36,32 @@ ends-lent (variant.Character b) reply own = refl
 ends-lent (variant.Reply n) reply own = refl
 ends-lent (variant.EscapeState on) reply own = refl
 ends-lent (variant.Event y x a) reply own = refl
-ends-lent (variant.Address b3 b2 b1 b0) reply own = refl
+ends-lent (variant.Address t b3 b2 b1 b0) reply own = refl
+ends-lent (variant.Block n) reply own = refl
+ends-lent (variant.Loaded b) reply own = refl
+ends-lent (variant.Ended save) reply own = refl
 ends-lent (variant.Error n k) reply own = refl
 ends-lent variant.Restart reply own = refl
 ends-lent (variant.Refused n) reply own = refl
-
--- a note has five bytes, or there is none
-pub note-short : (a : Answer) → length (noteFor a) ≤ 5
-unfolding noteOf
-note-short variant.More = omega arith
-note-short (variant.Character b) = omega arith
-note-short (variant.Reply n) = omega arith
-note-short (variant.EscapeState on) = omega arith
-note-short (variant.Event y x a) = omega arith
-note-short (variant.Address b3 b2 b1 b0) = omega arith
-note-short (variant.Error n k) = omega arith
-note-short variant.Restart = omega arith
-note-short (variant.Refused n) = omega arith
 
 -- need-more ends no loop, and every other answer is its own last report
 more-goes : (a : Answer) → endsOf a ≡ true → a ≡ variant.More → ⊥
 unfolding passes
 more-goes a h e = let f = sym h ∙ ap endsOf e in let z : _≡_ {A = ℕ} 0 1 = cc in omega arith
 
-last-is : (a : Answer) (reply own : List ℕ) → (a ≡ variant.More → ⊥) → lastOf a reply own ≡ reportOf a reply own ∷ []
+pub last-is : (a : Answer) (reply own : List ℕ) → (a ≡ variant.More → ⊥) → lastOf a reply own ≡ reportOf a reply own ∷ []
 last-is variant.More reply own h = absurd (h refl)
 last-is (variant.Character b) reply own h = refl
 last-is (variant.Reply n) reply own h = refl
 last-is (variant.EscapeState on) reply own h = refl
 last-is (variant.Event y x a) reply own h = refl
-last-is (variant.Address b3 b2 b1 b0) reply own h = refl
+last-is (variant.Address t b3 b2 b1 b0) reply own h = refl
+last-is (variant.Block n) reply own h = refl
+last-is (variant.Loaded b) reply own h = refl
+last-is (variant.Ended save) reply own h = refl
 last-is (variant.Error n k) reply own h = refl
 last-is variant.Restart reply own h = refl
 last-is (variant.Refused n) reply own h = refl
-
--- one more at the end
-notes-more : (l : List rules.Report) (r : rules.Report) → notes (l ++ (r ∷ [])) ≡ notes l ++ noteOf r
-unfolding notes
-notes-more [] r = append-nil (noteOf r)
-notes-more (q ∷ l) r = rw (notes-more l r, append-assoc)
 
 passed-more : {l : List rules.Report} → Passed l → (r : rules.Report) → passes r ≡ true → Passed (l ++ (r ∷ []))
 passed-more none r h = next h none
@@ -95,12 +73,12 @@ runs-more : {l q : Link} {reply own reply-mid own-mid reply-end own-end raw : Li
 runs-more stop d = took d stop
 runs-more (took e r) d = took e (runs-more r d)
 
--- over the raw bytes so far the loop passed over `reports`, whose notes stand in the lent room
-pub record Passing (link : Link) (reply own raw room : List ℕ) (now : Link) (reply-now own-now room-now : List ℕ) (noted : ℕ) : Type 0 where
+-- over the raw bytes so far the loop passed over `reports`, whose notes and data stand in the lent bytes
+pub record Passing (link : Link) (reply own raw room content : List ℕ) (now : Link) (reply-now own-now room-now content-now : List ℕ) (log : Log) : Type 0 where
   pub reports : List rules.Report
   pub passed : Passed reports
   pub steps : Runs link reply own raw reports now reply-now own-now
-  pub put : Put (notes reports) room room-now (5 * noted)
+  pub held : Holds (addsAll nothing reports) log room content room-now content-now
 
 -- bytes passed over at once: a chain behind a chain, without a note
 runs-join : {l q p : Link} {reply own reply-mid own-mid reply-end own-end raw more : List ℕ} {reports others : List rules.Report}
@@ -115,46 +93,119 @@ passed-waits (next e p) n = next e (passed-waits p n)
 passed-waits none zero = none
 passed-waits none (suc n) = next refl (passed-waits none n)
 
-notes-waits : (l : List rules.Report) (n : ℕ) → notes (l ++ replicate n rules.needMore) ≡ notes l
-unfolding notes noteOf
-notes-waits (r ∷ l) n = rw (notes-waits l n)
-notes-waits [] zero = refl
-notes-waits [] (suc n) = notes-waits [] n
+passed-join : {l m : List rules.Report} → Passed l → Passed m → Passed (l ++ m)
+passed-join none q = q
+passed-join (next e p) q = next e (passed-join p q)
 
-pub skips : {l q at : Link} {reply own room reply-now own-now room-now left : List ℕ} {noted n : ℕ} (raw : List ℕ) (j : ℕ)
-    → Passing l reply own (take j raw) room q reply-now own-now room-now noted → Pass-done q reply-now (take (length raw - j) (drop j raw)) n left → at ≡ passedFrom q n
-    → Passing l reply own (take (j + n) raw) room at left own-now room-now noted
-skips {own-now = own-now} {n = n} raw j p d e =
-    let tail : take (length raw - j) (drop j raw) ≡ drop j raw = take-all (length raw - j) (drop j raw) (simp length-drop (omega arith)) in
-    rw e (record {
-      reports = p .reports ++ replicate n rules.needMore;
-      passed = passed-waits (p .passed) n;
-      steps = rw (take-add j n raw, ← tail) (runs-join (p .steps) (d .steps own-now));
-      put = rw (notes-waits (p .reports) n) (p .put);
-    })
+passed-loads : {l : List rules.Report} → Passed l → (w : List ℕ) → Passed (l ++ map rules.loaded w)
+unfolding passes
+passed-loads (next e p) w = next e (passed-loads p w)
+passed-loads none [] = none
+passed-loads none (b ∷ w) = next refl (passed-loads none w)
 
-pub skip-within : {q : Link} {reply left : List ℕ} {n : ℕ} (raw : List ℕ) (j : ℕ) → j ≤ length raw → Pass-done q reply (take (length raw - j) (drop j raw)) n left
-    → j + n ≤ length raw
-skip-within raw j h d = let w = simp (length-take, length-drop) at (d .within) in omega arith
+-- how much was noted: at most a note for each raw byte
+module _ {l q : Link} {reply own raw room content reply-now own-now room-now content-now : List ℕ} {log : Log}
+    (p : Passing l reply own raw room content q reply-now own-now room-now content-now log) where
+  pub few-notes : log .noted ≤ length raw
+  few-notes = omega (arith, p .held .count, notes-most nothing (p .reports), runs-length (p .steps))
 
-pub nothing : (l : Link) (reply own room : List ℕ) → Passing l reply own [] room l reply own room 0
-unfolding notes
-nothing l reply own room = record { reports = []; passed = none; steps = stop; put = put-none }
+  pub room-length : length room-now ≡ length room
+  room-length = p .held .laid .size
+
+  pub content-length : length content-now ≡ length content
+  content-length = p .held .laid-content .size
+
+-- raw bytes passed over at once, those of the reply and then those of a load: a chain of steps, and what is noted of them
+tail-all : (raw : List ℕ) (j : ℕ) → take (length raw - j) (drop j raw) ≡ drop j raw
+tail-all raw j = take-all (length raw - j) (drop j raw) (simp length-drop (omega arith))
+
+pub goes-over : {l at : Link} {log more : Log} {raw reply room content left room-left content-left : List ℕ} {n : ℕ} → Pass-done l reply raw n left → at ≡ passedFrom l n
+    → Load-pass-done at log (take (length raw - n) (drop n raw)) room content more room-left content-left
+    → Over-done l log raw reply room content (record { link = at; log = more; used = n + (more .run - log .run) }) left room-left content-left
+unfolding addsAll
+goes-over {l} {at} {log} {more} {raw} {reply} {room} {content} {left} {room-left} {content-left} {n} d e k =
+    let m = more .run - log .run in
+    let f : Load-pass-done at log (drop n raw) room content more room-left content-left =
+    subst (λ (s : List ℕ). Load-pass-done at log s room content more room-left content-left) (tail-all raw n) k in
+    let w = take m (drop n raw) in
+    record {
+      reports = replicate n rules.needMore ++ map rules.loaded w;
+      passed = passed-loads (passed-waits none n) w;
+      within = omega (arith, d .within, f .within, f .grows, length-drop n raw);
+      steps = λ own. rw (take-add n m raw) (runs-join (subst (λ (q : Link). Runs l reply own (take n raw) (replicate n rules.needMore) q left own) (sym e) (d .steps own)) (f .steps left own));
+      adds-them = λ g room₀ content₀ h.
+          rw (adds-append g (replicate n rules.needMore) (map rules.loaded w), adds-quiet g [] n) (f .adds-them g room₀ content₀ h);
+    }
+
+module _ {l q : Link} {reply own room content reply-now own-now room-now content-now : List ℕ} {log : Log} (raw : List ℕ) (j : ℕ)
+    (p : Passing l reply own (take j raw) room content q reply-now own-now room-now content-now log) where
+  pub passed-over : {r : Over} {left room-left content-left : List ℕ} → Over-done q log (take (length raw - j) (drop j raw)) reply-now room-now content-now r left room-left content-left
+      → Passing l reply own (take (j + r .used) raw) room content (r .link) left own-now room-left content-left (r .log)
+  passed-over {r} {left} {room-left} {content-left} d =
+      let e : Over-done q log (drop j raw) reply-now room-now content-now r left room-left content-left =
+      subst (λ (s : List ℕ). Over-done q log s reply-now room-now content-now r left room-left content-left) (tail-all raw j) d in
+      record {
+        reports = p .reports ++ e .reports;
+        passed = passed-join (p .passed) (e .passed);
+        steps = rw (take-add j (r .used) raw) (runs-join (p .steps) (e .steps own-now));
+        held = rw (adds-append nothing (p .reports) (e .reports)) (e .adds-them (addsAll nothing (p .reports)) room content (p .held));
+      }
+
+pub over-within : {q : Link} {log : Log} {reply room content left room-left content-left : List ℕ} {r : Over} (raw : List ℕ) (j : ℕ) → j ≤ length raw
+    → Over-done q log (take (length raw - j) (drop j raw)) reply room content r left room-left content-left → j + r .used ≤ length raw
+over-within raw j h d = let w = simp (length-take, length-drop) at (d .within) in omega arith
+
+pub begins : (l : Link) (reply own room content : List ℕ) → Passing l reply own [] room content l reply own room content fresh
+unfolding addsAll
+begins l reply own room content = record { reports = []; passed = none; steps = stop; held = holds-nothing }
 
 -- What `run` promises: of too little room, and of what the loop did with enough.
-pub no-room : {l : Link} {reply own raw room : List ℕ} {r : Ran} → length room / 5 < length raw → r ≡ endedFrom l (variant.Refused 8) 0 0
-    → Run-done l reply own raw room r reply own room
-no-room h q = record { short = λ _. (q, refl, refl, refl); ran = λ k. absurd (omega arith) }
+not-both : {t : Bool} → t ≡ true → t ≡ false → ⊥
+not-both on off = let z : _≡_ {A = ℕ} 0 1 = cc in omega arith
 
-enough : {l : Link} {reply own raw room reply-left own-left room-left : List ℕ} {r : Ran} → length raw ≤ length room / 5
-    → Ran-done l reply own raw room r reply-left own-left room-left → Run-done l reply own raw room r reply-left own-left room-left
-enough h d = record { short = λ k. absurd (omega arith); ran = λ _. d }
+pub no-room : {l : Link} {reply own raw room content : List ℕ} {r : Ran} → lacksRoom (l .held) (length raw) (length room) (length content) ≡ true
+    → r ≡ endedFrom l (variant.Refused 8) 0 fresh → Run-done l reply own raw room content r reply own room content
+no-room h q = record { short = λ _. (q, refl, refl, refl, refl); ran = λ k. absurd (not-both h k) }
 
-module _ {l q : Link} {reply own room reply-now own-now room-now : List ℕ} (raw : List ℕ) (i noted : ℕ) (fits : length raw ≤ length room / 5)
-    (p : Passing l reply own (take i raw) room q reply-now own-now room-now noted) where
+-- the test of the content, without a sum
+pub sub-less : (content held bytes : ℕ) → held ≤ content → ltb (content - held) bytes ≡ ltb content (bytes + held)
+sub-less content held bytes h = go (ltb (content - held) bytes) refl
+  where
+    go : (t : Bool) → ltb (content - held) bytes ≡ t → t ≡ ltb content (bytes + held)
+    go true e = sym (lt-ltb content (bytes + held) (omega (arith, ltb-true (content - held) bytes e)))
+    go false e = sym (le-ltb content (bytes + held) (omega (arith, ltb-false (content - held) bytes e)))
+
+-- what enough room is
+pub enough-room : (held bytes room content : ℕ) → lacksRoom held bytes room content ≡ false → (5 * bytes ≤ room) × (bytes + held ≤ content)
+unfolding lacksRoom
+enough-room held bytes room content e = go (ltb (room / 5) bytes) refl (ltb content (bytes + held)) refl e
+  where
+    go : (s : Bool) → ltb (room / 5) bytes ≡ s → (t : Bool) → ltb content (bytes + held) ≡ t → (s || t) ≡ false → (5 * bytes ≤ room) × (bytes + held ≤ content)
+    go true a t b h = let z : _≡_ {A = ℕ} 0 1 = cc in absurd (omega arith)
+    go false a true b h = let z : _≡_ {A = ℕ} 0 1 = cc in absurd (omega arith)
+    go false a false b h = (omega (arith, ltb-false (room / 5) bytes a), ltb-false content (bytes + held) b)
+
+module _ {l q : Link} {reply own room content reply-now own-now room-now content-now : List ℕ} {log : Log} (raw : List ℕ) (i : ℕ)
+    (fits : lacksRoom (l .held) (length raw) (length room) (length content) ≡ false) (low : i ≤ length raw)
+    (p : Passing l reply own (take i raw) room content q reply-now own-now room-now content-now log) where
+  enough : {r : Ran} {reply-left own-left room-left content-left : List ℕ} → Ran-done l reply own raw room content r reply-left own-left room-left content-left
+      → Run-done l reply own raw room content r reply-left own-left room-left content-left
+  enough d = record { short = λ k. absurd (not-both k fits); ran = λ _. d }
+
+  size : length (take i raw) ≡ i
+  size = length-take-le i raw low
+
+  -- notes and data fit into the lent bytes
+  laid : (room-now ≡ over (notesOf (p .reports)) room) × (content-now ≡ over (dataOf (p .reports)) content)
+  laid =
+      let e = enough-room (l .held) (length raw) (length room) (length content) fits in (
+        p .held .laid .bytes (omega (arith, notes-most nothing (p .reports), runs-length (p .steps), size, e .0)),
+        p .held .laid-content .bytes (omega (arith, runs-data nothing (p .steps), view-held l reply own, size, e .1)),
+      )
+
   -- the raw bytes ended
-  pub all-read : {r : Ran} → i ≡ length raw → r ≡ endedFrom q variant.More i noted → Run-done l reply own raw room r reply-now own-now room-now
-  all-read e is = enough fits (rw is (record {
+  pub all-read : {r : Ran} → i ≡ length raw → r ≡ endedFrom q variant.More i log → Run-done l reply own raw room content r reply-now own-now room-now content-now
+  all-read e is = enough (rw is (record {
     reports = p .reports;
     passed = p .passed;
     steps = rw (append-nil (p .reports)) (p .steps);
@@ -162,32 +213,48 @@ module _ {l q : Link} {reply own room reply-now own-now room-now : List ℕ} (ra
     within = omega arith;
     ended = λ _. e;
     stopped = λ other. absurd (other refl);
-    noted = p .put .count;
-    bytes = p .put .bytes;
+    noted = p .held .count;
+    bytes = laid .0;
+    stored = p .held .stored;
+    contents = laid .1;
   }))
 
   module _ {o : Stepped} {reply-left own-left : List ℕ} (h : i < length raw) (d : Step-done q reply-now own-now (getD raw i 0) o reply-left own-left) where
-    -- a step that is passed over, with its note
-    pub one-more : {back : List ℕ} (n : ℕ) → endsOf (o .answer) ≡ false
-        → Put (noteFor (o .answer)) (take (length room-now - 5 * noted) (drop (5 * noted) room-now)) back (5 * n)
-        → Passing l reply own (take (i + 1) raw) room (o .link) reply-left own-left
-        (take (5 * noted) room-now ++ (back ++ drop (length room-now - 5 * noted) (drop (5 * noted) room-now))) (noted + n)
-    one-more n goes w =
-        let e : 5 * (noted + n) ≡ 5 * noted + 5 * n = omega arith in
-        let last = reportOf (o .answer) reply-left own-left in
-        record {
-          reports = p .reports ++ (last ∷ []);
-          passed = passed-more (p .passed) last (not-false (passes last) (ends-lent (o .answer) reply-left own-left ∙ goes));
-          steps = rw (add-one, take-suc raw i 0) (runs-more (p .steps) d);
-          put = rw (e, notes-more (p .reports), note-lent (o .answer) reply-left own-left) (put-tail (p .put) w);
-        }
+    -- the counts have room for one answer more
+    pub counts : length raw ≤ mostCount → length content ≤ mostCount → length own-left ≡ ownLent → countable log (o .answer) (length own-left) ≡ true
+    unfolding countable
+    counts big full lent =
+        let x = getD raw i 0 in
+        let r = rules.step (viewOf q reply-now own-now) x .report in
+        let n : dataIn (o .answer) ≡ length (contentIn r) = ap dataIn (d .answer-is) ∙ data-counted r in
+        let short = data-short q reply-now own-now x in
+        let e = enough-room (l .held) (length raw) (length room) (length content) fits in
+        let sum : log .stored + dataIn (o .answer) ≤ length content =
+        omega (arith, p .held .stored, n, runs-data nothing (p .steps), step-data (viewOf q reply-now own-now) x, view-held l reply own, size, e .1) in
+        rw (
+          lt-ltb (log .noted) mostCount (omega (arith, few-notes p, size)),
+          le-leb (dataIn (o .answer)) (length own-left) (omega (arith, n, short, lent)),
+          lt-ltb (dataIn (o .answer)) 256 (omega (arith, n, short)),
+          le-leb (log .stored) (mostCount - dataIn (o .answer)) (omega (arith, sum)),
+        )
+
+    -- a step that is passed over, with what is noted of it
+    pub one-more : {more : Log} {room-left content-left : List ℕ} → endsOf (o .answer) ≡ false → countable log (o .answer) (length own-left) ≡ true
+        → Add-done log (o .answer) own-left room-now content-now more room-left content-left
+        → Passing l reply own (take (i + 1) raw) room content (o .link) reply-left own-left room-left content-left more
+    one-more goes on a = record {
+      reports = p .reports ++ (reportOf (o .answer) reply-left own-left ∷ []);
+      passed = passed-more (p .passed) (reportOf (o .answer) reply-left own-left) (not-false (passes (reportOf (o .answer) reply-left own-left)) (ends-lent (o .answer) reply-left own-left ∙ goes));
+      steps = rw (add-one, take-suc raw i 0) (runs-more (p .steps) d);
+      held = rw (adds-snoc nothing (p .reports) (reportOf (o .answer) reply-left own-left)) (a .adds-it on reply-left (addsAll nothing (p .reports)) room content (p .held));
+    }
 
     -- a step that ends the loop
-    pub ended : (a : Answer) {r : Ran} → o .answer ≡ a → endsOf a ≡ true → r ≡ endedFrom (o .link) a (i + 1) noted
-        → Run-done l reply own raw room r reply-left own-left room-now
+    pub ended : (a : Answer) {r : Ran} → o .answer ≡ a → endsOf a ≡ true → r ≡ endedFrom (o .link) a (i + 1) log
+        → Run-done l reply own raw room content r reply-left own-left room-now content-now
     ended a same ends is =
         let other = more-goes a ends in
-        enough fits (rw is (record {
+        enough (rw is (record {
           reports = p .reports;
           passed = p .passed;
           steps = rw (last-is a reply-left own-left other, ← same, add-one, take-suc raw i 0) (runs-more (p .steps) d);
@@ -195,6 +262,12 @@ module _ {l q : Link} {reply own room reply-now own-now room-now : List ℕ} (ra
           within = omega arith;
           ended = λ e. absurd (other e);
           stopped = λ _. not-true (passes (reportOf a reply-left own-left)) (ends-lent a reply-left own-left ∙ ends);
-          noted = p .put .count;
-          bytes = p .put .bytes;
+          noted = p .held .count;
+          bytes = laid .0;
+          stored = p .held .stored;
+          contents = laid .1;
         }))
+
+-- one byte more is among them
+pub step-low : (raw : List ℕ) (i : ℕ) → i < length raw → i + 1 ≤ length raw
+step-low raw i h = omega arith

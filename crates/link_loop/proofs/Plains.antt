@@ -1,5 +1,5 @@
 -- Plain raw bytes in the middle of a reply: each is a step that needs more, so that all of them are a chain of steps.
-use Prim.Native.Nat.{ℕ, suc, _+_, _≤_, _<_}
+use Prim.Native.Nat.{ℕ, zero, suc, _+_, _≤_, _<_}
 use native.Mathlib.Nat.{add-zero}
 use native.Mathlib.Numerals.{add-one}
 use native.Mathlib.Omega.{arith}
@@ -13,6 +13,7 @@ use Rattle.serial_rules.specs.Escape.{dataByte, pieceOf}
 use Rattle.serial_rules.specs.Body.{Turn, more, done, refused}
 use Rattle.serial_rules.specs.Reply.{Kind, shapeOf, shapeTurn, longest}
 use Rattle.serial_rules.specs.Link as rules
+use Rattle.serial_rules.specs.Record.{passes}
 use Rattle.turns.specs.Plain.{plain, Plains, none, one, Plain-done}
 use Rattle.turns.proofs.Plain.{no-escape, done-plains, done-most, part-sets}
 use Rattle.kind.specs.Kinds.{kindFor, replyLent}
@@ -27,7 +28,7 @@ use Rattle.link.specs.declared.Link.{Link}
 use Rattle.link.specs.declared.Answer.the-variants as variant
 use Rattle.link.specs.declared.Stepped.{Stepped}
 use Rattle.link.specs.View.{replyRoom, ownRoom, usableOf, viewOf, reportOf, Step-done}
-use Rattle.link_loop.specs.Run.{Runs, stop, took, passes}
+use Rattle.link_loop.specs.Run.{Runs, stop, took, Passed, next}
 use Rattle.link_loop.specs.Parts.{passedFrom, Pass-done}
 use Rattle.link.proofs.Steps.{usable-live, usable-got, usable-held, reply-more, data-outside, at-data}
 
@@ -37,7 +38,7 @@ data-in-itself b h = rw (no-escape b h)
 
 -- a link in the middle of a reply
 abbrev pub mid : CallKind → ℕ → Link
-mid k g = record { wait = Waiting k; got = g; escape = false; doing = Quiet; held = 0; stopped = false }
+mid k g = record { wait = Waiting k; got = g; escape = false; doing = Quiet; held = 0; nested = 0; stopped = false }
 
 pub mid-usable : (k : CallKind) (g : ℕ) → g < longest (shapeOf (kindFor k)) → usableOf (mid k g) ≡ true
 unfolding usableOf
@@ -50,7 +51,7 @@ mid-step k n i g b reply own e h below room p =
     let turn = ahead-more (shapeOf (kindFor k)) n i b h p in
     let same : mid k (g + 1) ≡ mid k (suc g) = rw (add-one g) in
     at-data (mid k g) reply own b (mid-usable k g below) (data-in-itself b p)
-    (data-outside (mid k g) reply own b refl (reply-more (mid k g) reply b refl room (rw e turn) (rw same)))
+    (data-outside (mid k g) reply own b refl (reply-more (mid k g) reply b refl refl room (rw e turn) (rw same)))
 
 mid-steps : (k : CallKind) (n : ℕ) (xs : List ℕ) (i g : ℕ) (reply own : List ℕ) → Plains xs → g ≡ n + i → n < longest (shapeOf (kindFor k))
     → i + length xs ≤ aheadOf (shapeOf (kindFor k)) n → g + length xs ≤ length reply
@@ -69,7 +70,7 @@ passes-none l reply raw =
     record { within = omega arith; below = λ h. absurd (omega arith); steps = λ own. rw same stop }
 
 -- a usable link that waits, with no action open and no escape seen, is one in the middle of a reply
-module _ (l : Link) {k : CallKind} (usable : usableOf l ≡ true) (shut : l .escape ≡ false) (quiet : l .doing ≡ Quiet) (waits : l .wait ≡ Waiting k) where
+module _ (l : Link) {k : CallKind} (usable : usableOf l ≡ true) (shut : l .escape ≡ false) (outer : l .nested ≡ 0) (quiet : l .doing ≡ Quiet) (waits : l .wait ≡ Waiting k) where
   pub waits-below : l .got < longest (shapeOf (kindFor k))
   waits-below = subst (λ (w : Wait). l .got < replyRoom w) waits (usable-got l usable)
 
@@ -77,10 +78,10 @@ module _ (l : Link) {k : CallKind} (usable : usableOf l ≡ true) (shut : l .esc
   none-held = let h = subst (λ (d : Doing). l .held < ownRoom d) quiet (usable-held l usable) in omega arith
 
   same-mid : (n : ℕ) → passedFrom l n ≡ mid k (l .got + n)
-  same-mid n = rw (waits, shut, quiet, none-held, usable-live l usable)
+  same-mid n = rw (waits, shut, outer, quiet, none-held, usable-live l usable)
 
   mid-here : l ≡ mid k (l .got)
-  mid-here = rw (waits, shut, quiet, none-held, usable-live l usable)
+  mid-here = rw (waits, shut, outer, quiet, none-held, usable-live l usable)
 
   pub passes-plain : {raw left : List ℕ} {r : ℕ} (reply : List ℕ) (size : ℕ) → size ≡ aheadOf (shapeOf (kindFor k)) (l .got) → l .got + size ≤ replyLent → length reply ≡ replyLent
       → Plain-done raw (take size (drop (l .got) reply)) r left → Pass-done l reply raw r (take (l .got) reply ++ (left ++ drop size (drop (l .got) reply)))
@@ -130,3 +131,17 @@ still-usable {l} {reply} {own} {reply-left} {own-left} {x} {o} d p = go (usableO
         let at : viewOf (o .link) reply-left own-left ≡ rules.stopped = rw e in
         let no = stops (viewOf l reply own) x (sym (d .next) ∙ at) in
         sym no ∙ (ap passes (sym (d .answer)) ∙ p)
+
+-- so does a chain of them
+pub runs-usable : {l q : Link} {reply own reply-end own-end raw : List ℕ} {reports : List rules.Report} → Runs l reply own raw reports q reply-end own-end → Passed reports
+    → usableOf l ≡ true → usableOf q ≡ true
+runs-usable stop p u = u
+runs-usable (took d t) (next e p) u = runs-usable t p (still-usable d e)
+
+waits-passed : (n : ℕ) → Passed (replicate n rules.needMore)
+unfolding passes
+waits-passed zero = Passed.none
+waits-passed (suc n) = next refl (waits-passed n)
+
+pub passed-usable : {l at : Link} {reply raw left : List ℕ} {n : ℕ} → Pass-done l reply raw n left → at ≡ passedFrom l n → usableOf l ≡ true → usableOf at ≡ true
+passed-usable {n = n} d e u = rw e (runs-usable (d .steps []) (waits-passed n) u)

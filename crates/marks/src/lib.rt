@@ -18,7 +18,8 @@ pub fn outward_class(mark: u8) -> u8
     class_of(Way::Outward, mark)
 }
 
-// The class of a mark inward: 1 an error, 2 the Escape state, 3 an event, 4 an address, 0 not carried.
+// The class of a mark inward: 1 an error, 2 the Escape state, 3 an event, 4 an address, 5 a control block, 6 the end of a transfer, 7 execute, 8 a
+// load, 9 a save, 0 not carried.
 pub fn inward_class(mark: u8) -> u8
     ensures { λ r. ⌜ r ≡ inwardClass mark ⌝ }
 {

@@ -2,3 +2,4 @@ pub mod Sessions
 pub mod Trips
 pub mod Calls
 pub mod Parallel
+pub mod Recordings

@@ -6,6 +6,7 @@ use mathlib.Core.List.{List, [], _∷_, _++_, map}
 use borrow.Author.Tests.{ltb-false, le-ltb}
 use lib.Dec.{ltb}
 use lib.ListN.{length}
+use Rattle.serial_rules.specs.Nest.{nestOf}
 use Rattle.serial_rules.specs.Escape.{escaped}
 use Rattle.serial_rules.specs.Call.{stringLimit, Carrier, serial, carried}
 use Rattle.serial_rules.specs.Reply as rules
@@ -43,8 +44,8 @@ accepted : (c : Carrier) (k : rules.Kind) (r : rules.Reply) (b t : List ℕ) (ro
 unfolding rules.replyNumber
 accepted c k r b t room short ok h = simp (le-ltb _ _ short, ok, le-ltb _ _ h)
 
-fresh-view : (lent own : List ℕ) → viewOf fresh lent own ≡ link.fresh
-unfolding usableOf
+pub fresh-view : (lent own : List ℕ) → viewOf fresh lent own ≡ link.fresh
+unfolding usableOf nestOf
 fresh-view lent own = refl
 
 -- What a client's link makes of the bytes w that a host wrote for its call, whatever inputs i follow: need-more until the last byte, which

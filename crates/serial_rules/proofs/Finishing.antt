@@ -8,10 +8,9 @@ use lib.Dec.{eqb}
 use lib.ListN.{length}
 use borrow.Author.Tests.{eqb-false}
 use Rattle.serial_rules.specs.Escape.{Piece, pending, dataByte, mark, pieceOf}
-use Rattle.serial_rules.specs.Marks.{bit, inwardClass, errorMark, escapeMark, eventMark, addressMark}
 use Rattle.serial_rules.specs.Body.{Turn, more, done, refused}
 use Rattle.serial_rules.specs.Reply.{Kind, Shape, shapeOf, shapeTurn, longest}
-use Rattle.serial_rules.specs.Link.{Report, needMore, character, reply, escapeState, event, address, error, restart, refusal, Action, failing, signal, place, ownShape, Doing, none, own, Layer, layer, Token, underway, datum, acted, failed, bad, seen, failure, finish, ownByte, opens, markOutside, pieceSeen, look, Wait, idle, waiting, Frame, frame, complete, begun, Standing, halted, holds, replyTurned, datumMet, meets, Link, stopped, live, linkAt, step, entry, enterAt, enters, begin}
+use Rattle.serial_rules.specs.Link.{Transfer, load, save, Report, needMore, character, reply, escapeState, event, address, block, loaded, ended, error, restart, refusal, Action, failing, signal, place, control, ownShape, Meaning, unknown, end, starts, meaningOf, Doing, none, own, Layer, layer, Token, underway, datum, acted, failed, bad, seen, failure, finish, ownByte, innermost, closes, opens, mayStart, markOutside, pieceSeen, look, Wait, idle, waiting, Frame, frame, complete, begun, Standing, halted, holds, replyTurned, datumMet, meets, Link, stopped, live, linkAt, step, entry, enterAt, enters, begin}
 use Rattle.serial_rules.specs.Session.{Input, raw, call, nextBy, linkAfter}
 use Rattle.serial_rules.proofs.Ends.{Ends, last, next}
 use Rattle.serial_rules.proofs.Parts.{length-snoc}
@@ -82,18 +81,21 @@ after-sound l [] h = h
 after-sound l (i ∷ s) h = after-sound (nextBy l i) s (next-sound l i h)
 
 -- a reply is reported for a data byte only
-abbrev Bare : Report → Type 0
+abbrev pub Bare : Report → Type 0
 Bare needMore = Unit
 Bare (character b) = Unit
 Bare (reply s) = ⊥
 Bare (escapeState on) = Unit
 Bare (event y x a) = Unit
-Bare (address b3 b2 b1 b0) = Unit
+Bare (address t b3 b2 b1 b0) = Unit
+Bare (block h) = Unit
+Bare (loaded b) = Unit
+Bare (ended t) = Unit
 Bare (error n t) = Unit
 Bare restart = Unit
 Bare (refusal n) = Unit
 
-abbrev BareToken : Token → Type 0
+abbrev pub BareToken : Token → Type 0
 BareToken underway = Unit
 BareToken (datum b) = Unit
 BareToken (acted r) = Bare r
@@ -112,35 +114,43 @@ bare-finish : (a : Action) (h : List ℕ) (b : ℕ) → BareToken (finish a h b)
 bare-finish failing [] b = tt
 bare-finish failing (n ∷ t) b = bare-failure n t
 bare-finish signal h b = tt
-bare-finish place h b = tt
+bare-finish (place t) h b = tt
+bare-finish (control n) h b = tt
 
-bare-own : (a : Action) (h : List ℕ) (b : ℕ) (t : Turn) → BareToken (ownByte a h b t .token)
-bare-own a h b more = tt
-bare-own a h b done = bare-finish a h b
-bare-own a h b (refused n) = tt
+bare-own : (o : List Transfer) (a : Action) (h : List ℕ) (b : ℕ) (t : Turn) → BareToken (ownByte o a h b t .token)
+bare-own o a h b more = tt
+bare-own o a h b done = bare-finish a h b
+bare-own o a h b (refused n) = tt
 
-bare-mark : (m : ℕ) → BareToken (markOutside m .token)
-unfolding markOutside
-bare-mark m = go (eqb (inwardClass m) errorMark) (eqb (inwardClass m) escapeMark) (eqb (inwardClass m) eventMark) (eqb (inwardClass m) addressMark)
+bare-innermost : (o : List Transfer) (b : ℕ) → BareToken (innermost o b)
+bare-innermost [] b = tt
+bare-innermost (load ∷ o) b = tt
+bare-innermost (save ∷ o) b = tt
+
+bare-closes : (o : List Transfer) → BareToken (closes o .token)
+bare-closes [] = tt
+bare-closes (t ∷ o) = tt
+
+bare-mark : (o : List Transfer) (w : Meaning) → BareToken (markOutside o w .token)
+bare-mark o unknown = tt
+bare-mark o (Meaning.state on) = tt
+bare-mark o end = bare-closes o
+bare-mark o (starts a) = go (mayStart a o)
   where
-    go : (e s v a : Bool)
-        → BareToken (cond e (opens failing) (cond s (seen (acted (escapeState (bit m 1))) (layer false none)) (cond v (opens signal) (cond a (opens place) (seen (bad 4) (layer false none))))) .token)
-    go true s v a = tt
-    go false true v a = tt
-    go false false true a = tt
-    go false false false true = tt
-    go false false false false = tt
+    go : (k : Bool) → BareToken (cond k (opens o a) (seen (bad 13) (layer false none o)) .token)
+    go true = tt
+    go false = tt
 
-bare-piece : (d : Doing) (p : Piece) → BareToken (pieceSeen d p .token)
-bare-piece d pending = tt
-bare-piece none (dataByte b) = tt
-bare-piece (own a h) (dataByte b) = bare-own a h b (shapeTurn (ownShape a) (length h) b)
-bare-piece none (mark m) = bare-mark m
-bare-piece (own a h) (mark m) = tt
+bare-piece : (o : List Transfer) (d : Doing) (p : Piece) → BareToken (pieceSeen o d p .token)
+bare-piece o d pending = tt
+bare-piece o none (dataByte b) = bare-innermost o b
+bare-piece o (own a h) (dataByte b) = bare-own o a h b (shapeTurn (ownShape a) (length h) b)
+bare-piece o none (mark m) = bare-mark o (meaningOf m)
+bare-piece o (own a h) (mark m) = tt
 
-bare-look : (l : Layer) (x : ℕ) → BareToken (look l x .token)
+pub bare-look : (l : Layer) (x : ℕ) → BareToken (look l x .token)
 unfolding look
-bare-look l x = bare-piece (l .doing) (pieceOf (l .escape) x)
+bare-look l x = bare-piece (l .stack) (l .doing) (pieceOf (l .escape) x)
 
 -- which call waits
 abbrev pub waitIn : Link → Wait
@@ -162,7 +172,7 @@ turned-ends k got s b done e h q =
     record { some = h .0; ends = subst (Ends (shapeOf k) 0) p (upto-ends (shapeOf k) (b ∷ []) (h .1) (last (length got) b e)) }
 turned-ends k got s b (refused n) e h q = let z : Different = cc in absurd (omega arith)
 
-bare-not : (r : Report) (s : List ℕ) → Bare r → r ≡ reply s → ⊥
+pub bare-not : (r : Report) (s : List ℕ) → Bare r → r ≡ reply s → ⊥
 bare-not r s b e = subst Bare e b
 
 meets-ends : (f : Frame) (t : Token) (k : Kind) (s : List ℕ) → f .wait ≡ waiting k → Held (f .wait) (f .got) → BareToken t → meets f t .report ≡ reply s → Finished k s

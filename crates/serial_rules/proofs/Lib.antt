@@ -11,9 +11,12 @@ pub mod Sound
 pub mod Session
 pub mod Ends
 pub mod Shapes
+pub mod Meanings
 pub mod Parts
 pub mod Actions
 pub mod Replies
 pub mod Normal
 pub mod Finishing
 pub mod Parallel
+pub mod Depth
+pub mod Nest

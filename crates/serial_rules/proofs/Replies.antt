@@ -184,7 +184,7 @@ data-told f b s t =
     let l = map raw (escaped s) ++ t in
     let m = meets f (datum b) in
     layers-told between (holds f) (map raw (escaped (b ∷ s)) ++ t)
-    ∙ ap (says (holds f)) (data-signs none b s t)
+    ∙ ap (says (holds f)) (data-signs [] none b s t)
     ∙ underway-said f (second b) (token (datum b) ∷ signs between l)
     ∙ ap (λ (w : List Told). fill (report needMore) (second b) ++ (report (m .report) ∷ w)) (sym (layers-told between (m .next) l))
 

@@ -10,4 +10,6 @@ pub mod Places
 pub mod Reply
 pub mod Link
 pub mod Session
+pub mod Record
 pub mod Cases
+pub mod Nest

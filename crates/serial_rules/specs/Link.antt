@@ -1,40 +1,86 @@
--- The link as a machine on raw bytes and begun calls (document 01, 'Replies and actions, inward'): the escape layer, then the actions,
--- then the reply. What a byte is to the reply is settled before what waits is looked at.
+-- The link as a machine on raw bytes and begun calls (document 01, 'Replies and actions, inward'; document 02, R-1): the escape layer, then the
+-- actions and the open transfers, then the reply. What a byte is to the reply is settled before what waits is looked at.
 use Prim.Native.Nat.{ℕ}
 use mathlib.Core.Bool.{Bool, true, false, cond}
 use mathlib.Core.List.{List, [], _∷_, _++_}
-use lib.Dec.{eqb}
+use lib.Dec.{eqb, ltb}
 use lib.ListN.{length}
 use Rattle.serial_rules.specs.Escape.{Piece, pending, dataByte, mark, pieceOf}
-use Rattle.serial_rules.specs.Marks.{bit, inwardClass, errorMark, escapeMark, eventMark, addressMark}
+use Rattle.serial_rules.specs.Marks.{bit, inwardClass, errorMark, escapeMark, eventMark, addressMark, blockMark, endMark, executeMark, loadMark, saveMark}
 use Rattle.serial_rules.specs.Body.{Turn, more, done, refused}
 use Rattle.serial_rules.specs.Fields.{at}
 use Rattle.serial_rules.specs.Reply.{Kind, Shape, fixed, text, shapeOf, shapeTurn, longest}
 
--- What a raw byte gives: need-more; a character; a finished reply; an action; an error or a restart; or a refusal with its number.
+-- A transfer (document 02: "&Ex load and &Fx save"), and what four address bytes are for.
+pub data Transfer : Type 0 where
+  load : Transfer
+  save : Transfer
+
+pub data Target : Type 0 where
+  setting : Target
+  executing : Target
+  opening : Transfer → Target
+
+-- What a raw byte gives: need-more; a character; a finished reply; an action, a byte of load data or the end of a transfer; an error or a
+-- restart; or a refusal with its number.
 pub data Report : Type 0 where
   needMore : Report
   character : ℕ → Report
   reply : List ℕ → Report
   escapeState : Bool → Report
   event : ℕ → ℕ → ℕ → Report
-  address : ℕ → ℕ → ℕ → ℕ → Report
+  address : Target → ℕ → ℕ → ℕ → ℕ → Report
+  block : List ℕ → Report
+  loaded : ℕ → Report
+  ended : Transfer → Report
   error : ℕ → List ℕ → Report
   restart : Report
   refusal : ℕ → Report
 
--- The actions that have bytes of their own, and how these end: "error number, text without &00 of 0 to 255 bytes, &00", "Y X A follow", "4 address bytes".
+-- The actions that have bytes of their own, and how these end: "error number, text without &00 of 0 to 255 bytes, &00", "Y X A follow", "4 address
+-- bytes", "that many control-block bytes follow".
 pub data Action : Type 0 where
   failing : Action
   signal : Action
-  place : Action
+  place : Target → Action
+  control : ℕ → Action
 
 abbrev pub ownShape : Action → Shape
 ownShape failing = text
 ownShape signal = fixed 3
-ownShape place = fixed 4
+ownShape (place t) = fixed 4
+ownShape (control n) = fixed n
 
--- What the actions have of the stream: an escape was seen or not; an action is open, with its own bytes so far, or none.
+-- the most bytes of its own that an action has; a mark opens no control block of 0 bytes, and none of more than 127
+abbrev pub ownMost : Action → ℕ
+ownMost failing = longest text
+ownMost signal = 3
+ownMost (place t) = 4
+ownMost (control n) = cond (ltb n 0x80) n 0
+
+-- What a mark is, outside an action's own bytes: not carried; the Escape state; the end of a transfer; or the start of an action.
+pub data Meaning : Type 0 where
+  unknown : Meaning
+  state : Bool → Meaning
+  end : Meaning
+  starts : Action → Meaning
+
+-- "&80 to &8F (bit 0 is the Escape state)"; "Other low bits are ignored."
+unfoldable pub meaningOf : ℕ → Meaning
+meaningOf m =
+    cond (eqb (inwardClass m) errorMark) (starts failing)
+    (cond (eqb (inwardClass m) escapeMark) (state (bit m 1))
+    (cond (eqb (inwardClass m) eventMark) (starts signal)
+    (cond (eqb (inwardClass m) addressMark) (starts (place setting))
+    (cond (eqb (inwardClass m) blockMark) (starts (control m))
+    (cond (eqb (inwardClass m) endMark) end
+    (cond (eqb (inwardClass m) executeMark) (starts (place executing))
+    (cond (eqb (inwardClass m) loadMark) (starts (place (opening load)))
+    (cond (eqb (inwardClass m) saveMark) (starts (place (opening save)))
+    unknown))))))))
+
+-- What the actions have of the stream: an escape was seen or not; an action is open, with its own bytes so far, or none; and the open transfers,
+-- innermost first.
 pub data Doing : Type 0 where
   none : Doing
   own : Action → List ℕ → Doing
@@ -42,12 +88,13 @@ pub data Doing : Type 0 where
 pub record Layer : Type 0 where
   pub escape : Bool
   pub doing : Doing
+  pub stack : List Transfer
 
-abbrev pub layer : Bool → Doing → Layer
-layer e d = record { escape = e; doing = d }
+abbrev pub layer : Bool → Doing → List Transfer → Layer
+layer e d o = record { escape = e; doing = d; stack = o }
 
--- What a raw byte is to the reply: nothing yet; a data byte outside an action; the end of an action that leaves the reply at its place;
--- the end of an error or restart; or a byte that is refused.
+-- What a raw byte is to the reply: nothing yet; a data byte outside every action and transfer; an action, load data or an end, which leave the
+-- reply at its place; the end of an error or restart; or a byte that is refused.
 pub data Token : Type 0 where
   underway : Token
   datum : ℕ → Token
@@ -75,42 +122,73 @@ failureOf (n ∷ t) = failure n t
 abbrev pub finish : Action → List ℕ → ℕ → Token
 finish failing h b = failed (failureOf h)
 finish signal h b = acted (event (at h 0) (at h 1) b)
-finish place h b = acted (address (at h 0) (at h 1) (at h 2) b)
+finish (place t) h b = acted (address t (at h 0) (at h 1) (at h 2) b)
+finish (control n) h b = acted (block (h ++ (b ∷ [])))
 
-abbrev pub ownByte : Action → List ℕ → ℕ → Turn → Seen
-ownByte a h b more = seen underway (layer false (own a (h ++ (b ∷ []))))
-ownByte a h b done = seen (finish a h b) (layer false none)
-ownByte a h b (refused n) = seen (bad n) (layer false none)
+-- the transfers open after it: "an action may open a transfer"; "An error or restart closes all and ends the call."
+abbrev pub opened : Action → List Transfer → List Transfer
+opened failing o = []
+opened signal o = o
+opened (place setting) o = o
+opened (place executing) o = o
+opened (place (opening t)) o = t ∷ o
+opened (control n) o = o
 
-abbrev pub dataSeen : Doing → ℕ → Seen
-dataSeen none b = seen (datum b) (layer false none)
-dataSeen (own a h) b = ownByte a h b (shapeTurn (ownShape a) (length h) b)
+abbrev pub ownByte : List Transfer → Action → List ℕ → ℕ → Turn → Seen
+ownByte o a h b more = seen underway (layer false (own a (h ++ (b ∷ []))) o)
+ownByte o a h b done = seen (finish a h b) (layer false none (opened a o))
+ownByte o a h b (refused n) = seen (bad n) (layer false none o)
 
-abbrev pub opens : Action → Seen
-opens a = seen underway (layer false (own a []))
+-- "a data byte or an end goes to the innermost open one and moves no reply byte"; "a save takes no inward data, and a data byte there is 9"
+abbrev pub innermost : List Transfer → ℕ → Token
+innermost [] b = datum b
+innermost (load ∷ o) b = acted (loaded b)
+innermost (save ∷ o) b = bad 9
 
--- "&80 to &8F (bit 0 is the Escape state)"; "Other low bits are ignored. All others give 4."
-unfoldable pub markOutside : ℕ → Seen
-markOutside m =
-    cond (eqb (inwardClass m) errorMark) (opens failing)
-    (cond (eqb (inwardClass m) escapeMark) (seen (acted (escapeState (bit m 1))) (layer false none))
-    (cond (eqb (inwardClass m) eventMark) (opens signal)
-    (cond (eqb (inwardClass m) addressMark) (opens place)
-    (seen (bad 4) (layer false none)))))
+abbrev pub dataSeen : List Transfer → Doing → ℕ → Seen
+dataSeen o none b = seen (innermost o b) (layer false none o)
+dataSeen o (own a h) b = ownByte o a h b (shapeTurn (ownShape a) (length h) b)
+
+-- "An end with none open is 5."
+abbrev pub closes : List Transfer → Seen
+closes [] = seen (bad 5) (layer false none [])
+closes (t ∷ o) = seen (acted (ended t)) (layer false none o)
+
+abbrev pub opens : List Transfer → Action → Seen
+opens o a = seen underway (layer false (own a []) o)
+
+-- "At most four may be open"
+abbrev pub deepest : ℕ
+deepest = 4
+
+abbrev pub mayStart : Action → List Transfer → Bool
+mayStart failing o = true
+mayStart signal o = true
+mayStart (place setting) o = true
+mayStart (place executing) o = true
+mayStart (place (opening t)) o = ltb (length o) deepest
+mayStart (control n) o = true
+
+-- 4: "mark or request code not carried"; "a fifth is the new answer 13, at its mark, checked after 4"
+abbrev pub markOutside : List Transfer → Meaning → Seen
+markOutside o unknown = seen (bad 4) (layer false none o)
+markOutside o (state on) = seen (acted (escapeState on)) (layer false none o)
+markOutside o end = closes o
+markOutside o (starts a) = cond (mayStart a o) (opens o a) (seen (bad 13) (layer false none o))
 
 -- 5: a mark "inside an action's own bytes"
-abbrev pub markSeen : Doing → ℕ → Seen
-markSeen none m = markOutside m
-markSeen (own a h) m = seen (bad 5) (layer false none)
+abbrev pub markSeen : List Transfer → Doing → ℕ → Seen
+markSeen o none m = markOutside o (meaningOf m)
+markSeen o (own a h) m = seen (bad 5) (layer false none o)
 
-abbrev pub pieceSeen : Doing → Piece → Seen
-pieceSeen d pending = seen underway (layer true d)
-pieceSeen d (dataByte b) = dataSeen d b
-pieceSeen d (mark m) = markSeen d m
+abbrev pub pieceSeen : List Transfer → Doing → Piece → Seen
+pieceSeen o d pending = seen underway (layer true d o)
+pieceSeen o d (dataByte b) = dataSeen o d b
+pieceSeen o d (mark m) = markSeen o d m
 
--- one raw byte, as far as the escape layer and the actions go
+-- one raw byte, as far as the escape layer, the actions and the transfers go
 unfoldable pub look : Layer → ℕ → Seen
-look l raw = pieceSeen (l .doing) (pieceOf (l .escape) raw)
+look l raw = pieceSeen (l .stack) (l .doing) (pieceOf (l .escape) raw)
 
 -- "A link is idle or waits for one call."
 pub data Wait : Type 0 where
@@ -165,7 +243,7 @@ pub data Link : Type 0 where
   live : Layer → Frame → Link
 
 abbrev pub fresh : Link
-fresh = live (layer false none) idleFrame
+fresh = live (layer false none []) idleFrame
 
 pub record Step : Type 0 where
   pub report : Report

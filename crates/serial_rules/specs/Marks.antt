@@ -2,7 +2,7 @@
 -- "What a mark may be, for each of its 256 byte values and each way, is one constant table with its rule proved over the whole of it."
 use Prim.Native.Nat.{ℕ, _/_, _%_}
 use mathlib.Core.Bool.{Bool, cond, not, _&&_}
-use lib.Dec.{eqb, leb}
+use lib.Dec.{eqb, leb, ltb}
 use Rattle.serial_rules.specs.Escape.{escape}
 
 -- the bit of weight w of a byte
@@ -39,15 +39,35 @@ eventMark = 3
 abbrev pub addressMark : ℕ
 addressMark = 4
 
+abbrev pub blockMark : ℕ
+blockMark = 5
+
+abbrev pub endMark : ℕ
+endMark = 6
+
+abbrev pub executeMark : ℕ
+executeMark = 7
+
+abbrev pub loadMark : ℕ
+loadMark = 8
+
+abbrev pub saveMark : ℕ
+saveMark = 9
+
 -- "&00 (error number, text without &00 of 0 to 255 bytes, &00), &80 to &8F (bit 0 is the Escape state), &90 to &9F except &9B (Y X A follow), &C0 to
--- &CF (4 address bytes, high first)"
+-- &CF (4 address bytes, high first)"; document 02: "&01 to &7F (that many control-block bytes follow), &Bx end, &Dx execute, &Ex load and &Fx save"; "Only &Ax still gives 4."
 unfoldable pub inwardClass : ℕ → ℕ
 inwardClass m =
     cond (eqb m 0) errorMark
+    (cond (ltb m 0x80) blockMark
     (cond (eqb (m / 16) 0x8) escapeMark
     (cond (eqb (m / 16) 0x9 && not (eqb m escape)) eventMark
+    (cond (eqb (m / 16) 0xB) endMark
     (cond (eqb (m / 16) 0xC) addressMark
-    notCarried)))
+    (cond (eqb (m / 16) 0xD) executeMark
+    (cond (eqb (m / 16) 0xE) loadMark
+    (cond (eqb (m / 16) 0xF) saveMark
+    notCarried))))))))
 
 -- the outward row's class: 1 starts a request, 0 is not carried
 unfoldable pub outwardClass : ℕ → ℕ

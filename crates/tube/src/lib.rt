@@ -117,10 +117,11 @@ pub extern "C" fn tube_run(
     reply: &mut [u8; CallKind::REPLY],
     own: &mut [u8; Link::OWN],
     room: &mut [u8],
+    content: &mut [u8],
 ) -> FlatRan
-    ensures { λ r. ⌜ Flat-run-done link (now (reply .entry)) (now (own .entry)) (now (raw .entry)) (now (room .entry)) r (now (reply .exit)) (now (own .exit)) (now (room .exit)) ⌝ }
+    ensures { λ r. ⌜ Flat-run-done link (now (reply .entry)) (now (own .entry)) (now (raw .entry)) (now (room .entry)) (now (content .entry)) r (now (reply .exit)) (now (own .exit)) (now (room .exit)) (now (content .exit)) ⌝ }
 {
-    flat_link::run(link, raw, reply, own, room)
+    flat_link::run(link, raw, reply, own, room, content)
 }
 
 // Writes a reply: see `flat_reply::write_reply`.

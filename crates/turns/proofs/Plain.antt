@@ -15,7 +15,7 @@ use Rattle.serial_rules.specs.Call.{return}
 use Rattle.serial_rules.proofs.Trip.{and-both}
 use Rattle.escape.specs.Put.{Put}
 use Rattle.escape.proofs.Laws.{put-none, put-next}
-use Rattle.turns.specs.Plain.{plain, Plains, none, one, plainRun, Plain-done}
+use Rattle.turns.specs.Plain.{plain, All, none, one, Plains, runOf, Plain-done}
 
 -- a plain byte is neither
 module _ (b : ℕ) (h : plain b ≡ true) where
@@ -25,86 +25,108 @@ module _ (b : ℕ) (h : plain b ≡ true) where
   pub no-return : eqb b return ≡ false
   no-return = not-true (eqb b return) (and-both (not (eqb b escape)) (not (eqb b return)) h .1)
 
--- no room, no byte left, a byte that is not plain, and one that is
-none-left : (n : ℕ) → plainRun n [] ≡ 0
-unfolding plainRun
-none-left zero = refl
-none-left (suc n) = refl
+-- The run of a kind of bytes.
+module _ (p : ℕ → Bool) where
+  -- no room, no byte left, a byte that is not of the kind, and one that is
+  none-left : (n : ℕ) → runOf p n [] ≡ 0
+  unfolding runOf
+  none-left zero = refl
+  none-left (suc n) = refl
 
-stops-at : (n b : ℕ) (l : List ℕ) → plain b ≡ false → plainRun n (b ∷ l) ≡ 0
-unfolding plainRun
-stops-at zero b l h = refl
-stops-at (suc n) b l h = rw h
+  stops-at : (n b : ℕ) (l : List ℕ) → p b ≡ false → runOf p n (b ∷ l) ≡ 0
+  unfolding runOf
+  stops-at zero b l h = refl
+  stops-at (suc n) b l h = rw h
 
-goes-on : (n b : ℕ) (l : List ℕ) → plain b ≡ true → plainRun (suc n) (b ∷ l) ≡ suc (plainRun n l)
-unfolding plainRun
-goes-on n b l h = rw h
+  goes-on : (n b : ℕ) (l : List ℕ) → p b ≡ true → runOf p (suc n) (b ∷ l) ≡ suc (runOf p n l)
+  unfolding runOf
+  goes-on n b l h = rw h
 
-no-room : (l : List ℕ) → plainRun 0 l ≡ 0
-unfolding plainRun
-no-room l = refl
+  no-room : (l : List ℕ) → runOf p 0 l ≡ 0
+  unfolding runOf
+  no-room l = refl
 
--- The first i bytes were copied, and the run is those and the run of what is left.
-pub record Copying (raw out now : List ℕ) (i : ℕ) : Type 0 where
+  pub run-all : (n : ℕ) (l : List ℕ) → All p (take (runOf p n l) l)
+  unfolding runOf
+  run-all zero l = none
+  run-all (suc n) [] = none
+  run-all (suc n) (b ∷ l) = go (p b) refl (run-all n l)
+    where
+      go : (t : Bool) → p b ≡ t → All p (take (runOf p n l) l) → All p (take (cond t (suc (runOf p n l)) 0) (b ∷ l))
+      go true e w = one e w
+      go false e w = none
+
+  pub run-most : (n : ℕ) (l : List ℕ) → (runOf p n l ≤ n) × (runOf p n l ≤ length l)
+  unfolding runOf
+  run-most zero l = (omega arith, omega arith)
+  run-most (suc n) [] = (omega arith, omega arith)
+  run-most (suc n) (b ∷ l) = go (p b) (run-most n l)
+    where
+      go : (t : Bool) → (runOf p n l ≤ n) × (runOf p n l ≤ length l) → (cond t (suc (runOf p n l)) 0 ≤ suc n) × (cond t (suc (runOf p n l)) 0 ≤ length (b ∷ l))
+      go true h = (omega arith, omega arith)
+      go false h = (omega arith, omega arith)
+
+-- The first i bytes are of the run, and it is those and the run of what is left.
+pub record Running (p : ℕ → Bool) (raw : List ℕ) (most i : ℕ) : Type 0 where
   pub within : i ≤ length raw
-  pub run : plainRun (length out) raw ≡ i + plainRun (length out - i) (drop i raw)
+  pub below : i ≤ most
+  pub run : runOf p most raw ≡ i + runOf p (most - i) (drop i raw)
+
+pub runs-none : {p : ℕ → Bool} {raw : List ℕ} {most : ℕ} → Running p raw most 0
+runs-none = record { within = omega arith; below = omega arith; run = simp (zero-add, unary-clauses) }
+
+module _ {p : ℕ → Bool} {raw : List ℕ} {most i : ℕ} (s : Running p raw most i) where
+  -- what is left of the run
+  left-run : {r : ℕ} → runOf p (most - i) (drop i raw) ≡ r → runOf p most raw ≡ i + r
+  left-run e = s .run ∙ ap (λ (m : ℕ). i + m) e
+
+  whole : runOf p (most - i) (drop i raw) ≡ 0 → i ≡ runOf p most raw
+  whole e = omega (arith, left-run e)
+
+  pub run-full : most ≤ i → i ≡ runOf p most raw
+  run-full h = let z : most - i ≡ 0 = omega arith in whole (rw z (no-room p (drop i raw)))
+
+  pub run-ended : length raw ≤ i → i ≡ runOf p most raw
+  run-ended h = whole (rw (drop-of-length-le raw h) (none-left p (most - i)))
+
+  pub run-stopped : i < length raw → p (getD raw i 0) ≡ false → i ≡ runOf p most raw
+  run-stopped h e = whole (rw (drop-cons raw i 0 h) (stops-at p (most - i) (getD raw i 0) (drop (suc i) raw) e))
+
+  pub run-more : i < length raw → i < most → p (getD raw i 0) ≡ true → Running p raw most (i + 1)
+  run-more h k e =
+      let n : most - i ≡ suc (most - (i + 1)) = omega arith in
+      let rest : runOf p (most - i) (drop i raw) ≡ suc (runOf p (most - (i + 1)) (drop (i + 1) raw)) =
+      rw (drop-cons raw i 0 h, n, add-one i) (goes-on p (most - suc i) (getD raw i 0) (drop (suc i) raw) e) in
+      record { within = omega arith; below = omega arith; run = omega (arith, left-run rest) }
+
+-- The first i bytes of a plain run were copied.
+pub record Copying (raw out now : List ℕ) (i : ℕ) : Type 0 where
+  pub running : Running plain raw (length out) i
   pub put : Put (take i raw) out now i
 
 pub copies-none : {raw out : List ℕ} → Copying raw out out 0
-copies-none = record { within = omega arith; run = simp (zero-add, unary-clauses); put = put-none }
+copies-none = record { running = runs-none; put = put-none }
 
 module _ {raw out now : List ℕ} {i : ℕ} (s : Copying raw out now i) where
-  -- what is left of the run
-  left-run : {r : ℕ} → plainRun (length out - i) (drop i raw) ≡ r → plainRun (length out) raw ≡ i + r
-  left-run e = s .run ∙ ap (λ (m : ℕ). i + m) e
-
-  copied : plainRun (length out - i) (drop i raw) ≡ 0 → Plain-done raw out i now
-  copied e = record { count = omega (arith, left-run e); bytes = s .put .bytes }
-
   pub full : length out ≤ i → Plain-done raw out i now
-  full h = let z : length out - i ≡ 0 = omega arith in copied (rw z (no-room (drop i raw)))
+  full h = record { count = run-full (s .running) h; bytes = s .put .bytes }
 
   pub ended : length raw ≤ i → Plain-done raw out i now
-  ended h = copied (rw (drop-of-length-le raw h) (none-left (length out - i)))
+  ended h = record { count = run-ended (s .running) h; bytes = s .put .bytes }
 
   pub stopped : i < length raw → plain (getD raw i 0) ≡ false → Plain-done raw out i now
-  stopped h e = copied (rw (drop-cons raw i 0 h) (stops-at (length out - i) (getD raw i 0) (drop (suc i) raw) e))
+  stopped h e = record { count = run-stopped (s .running) h e; bytes = s .put .bytes }
 
   pub one-more : i < length raw → i < length out → plain (getD raw i 0) ≡ true → Copying raw out (set now i (getD raw i 0)) (i + 1)
-  one-more h k e =
-      let n : length out - i ≡ suc (length out - (i + 1)) = omega arith in
-      let b = getD raw i 0 in
-      let rest : plainRun (length out - i) (drop i raw) ≡ suc (plainRun (length out - (i + 1)) (drop (i + 1) raw)) =
-      rw (drop-cons raw i 0 h, n, add-one i) (goes-on (length out - suc i) b (drop (suc i) raw) e) in
-      record { within = omega arith; run = omega (arith, left-run rest); put = put-next raw h k (s .put) }
-
-run-plains : (n : ℕ) (l : List ℕ) → Plains (take (plainRun n l) l)
-unfolding plainRun
-run-plains zero l = none
-run-plains (suc n) [] = none
-run-plains (suc n) (b ∷ l) = go (plain b) refl (run-plains n l)
-  where
-    go : (t : Bool) → plain b ≡ t → Plains (take (plainRun n l) l) → Plains (take (cond t (suc (plainRun n l)) 0) (b ∷ l))
-    go true e p = one e p
-    go false e p = none
-
-run-most : (n : ℕ) (l : List ℕ) → (plainRun n l ≤ n) × (plainRun n l ≤ length l)
-unfolding plainRun
-run-most zero l = (omega arith, omega arith)
-run-most (suc n) [] = (omega arith, omega arith)
-run-most (suc n) (b ∷ l) = go (plain b) (run-most n l)
-  where
-    go : (t : Bool) → (plainRun n l ≤ n) × (plainRun n l ≤ length l) → (cond t (suc (plainRun n l)) 0 ≤ suc n) × (cond t (suc (plainRun n l)) 0 ≤ length (b ∷ l))
-    go true h = (omega arith, omega arith)
-    go false h = (omega arith, omega arith)
+  one-more h k e = record { running = run-more (s .running) h k e; put = put-next raw h k (s .put) }
 
 -- what a caller has of it
 module _ {raw out left : List ℕ} {r : ℕ} (d : Plain-done raw out r left) where
   pub done-plains : Plains (take r raw)
-  done-plains = rw (d .count) (run-plains (length out) raw)
+  done-plains = rw (d .count) (run-all plain (length out) raw)
 
   pub done-most : (r ≤ length out) × (r ≤ length raw)
-  done-most = rw (d .count) (run-most (length out) raw)
+  done-most = rw (d .count) (run-most plain (length out) raw)
 
 -- what a part of other lent bytes, lent in turn, leaves of them
 pub part-sets : {raw left : List ℕ} {r : ℕ} (l : List ℕ) (at size : ℕ) → at + size ≤ length l → Plain-done raw (take size (drop at l)) r left

@@ -13,17 +13,25 @@ use Rattle.escape.specs.Put.{over}
 abbrev pub plain : ℕ → Bool
 plain b = not (eqb b escape) && not (eqb b return)
 
-pub data Plains : List ℕ → Type 0 where
-  none : Plains []
-  one : {b : ℕ} {l : List ℕ} → plain b ≡ true → Plains l → Plains (b ∷ l)
+-- not the escape: such a byte is data in itself on the serial lead
+abbrev pub isData : ℕ → Bool
+isData b = not (eqb b escape)
 
--- how many plain bytes stand at the start, at most n
-unfoldable pub plainRun : ℕ → List ℕ → ℕ
-plainRun zero l = 0
-plainRun (suc n) [] = 0
-plainRun (suc n) (b ∷ l) = cond (plain b) (suc (plainRun n l)) 0
+-- bytes each of which is of a kind
+pub data All (p : ℕ → Bool) : List ℕ → Type 0 where
+  none : All p []
+  one : {b : ℕ} {l : List ℕ} → p b ≡ true → All p l → All p (b ∷ l)
+
+abbrev pub Plains : List ℕ → Type 0
+Plains l = All plain l
+
+-- how many bytes of a kind stand at the start, at most n
+unfoldable pub runOf : (ℕ → Bool) → ℕ → List ℕ → ℕ
+runOf p zero l = 0
+runOf p (suc n) [] = 0
+runOf p (suc n) (b ∷ l) = cond (p b) (suc (runOf p n l)) 0
 
 -- What `copy_plain` promises of the raw bytes, the lent bytes before and after, and the result.
 pub record Plain-done (raw out : List ℕ) (r : ℕ) (left : List ℕ) : Type 0 where
-  pub count : r ≡ plainRun (length out) raw
+  pub count : r ≡ runOf plain (length out) raw
   pub bytes : left ≡ over (take r raw) out

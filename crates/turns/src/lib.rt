@@ -2,7 +2,7 @@
 ghost use mathlib.Core.Path.{_≡_};
 ghost use Rattle.serial_rules.specs.Body.{fixedTurn, stringTurn};
 ghost use Rattle.turns.specs.Turns.{turnOf};
-ghost use Rattle.turns.specs.Plain.{plain, Plain-done};
+ghost use Rattle.turns.specs.Plain.{plain, isData, runOf, Plain-done};
 use escape::Piece;
 use strings::Text;
 
@@ -50,6 +50,23 @@ pub fn copy_plain(raw: &[u8], out: &mut [u8]) -> usize
             return i;
         }
         out[i] = b;
+        i += 1;
+    }
+    i
+}
+
+// How many bytes at the start of `raw` are not an escape, at most so many.
+pub fn data_ahead(raw: &[u8], most: usize) -> usize
+    ensures { λ r. ⌜ r ≡ runOf isData most (now (raw .entry)) ⌝ }
+{
+    let mut i: usize = 0;
+    while i < most {
+        if raw.len() <= i {
+            return i;
+        }
+        if raw[i] == Piece::ESCAPE {
+            return i;
+        }
         i += 1;
     }
     i

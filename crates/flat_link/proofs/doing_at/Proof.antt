@@ -1,19 +1,33 @@
--- The tests pick the action of the number; where none passes it is the last.
-use borrow.Author.Tests.{eq-eqb, ne-eqb}
+-- Each number has its action; any other is of a control block.
 use Rattle.flat_link.proofs.doing_at.Statement.{statement}
 use Rattle.flat_link.proofs.doing_at.Tie as tie
+use borrow.Author.Tests.{ne-eqb}
 
 returns : tie.Need-returns
-returns c = rw (eq-eqb _ _ (c .if1 .taken))
+returns c = rw (c .match .keys1)
 
 returns-2 : tie.Need-returns-2
-returns-2 c = simp (ne-eqb _ _ (c .before .if1 .left), eq-eqb _ _ (c .if2 .taken))
+returns-2 c = rw (c .match .keys2)
 
 returns-3 : tie.Need-returns-3
-returns-3 c = simp (ne-eqb _ _ (c .before .before .if1 .left), ne-eqb _ _ (c .before .if2 .left), eq-eqb _ _ (c .if3 .taken))
+returns-3 c = rw (c .match .keys3)
 
 returns-4 : tie.Need-returns-4
-returns-4 c = simp (ne-eqb _ _ (c .before .before .if1 .left), ne-eqb _ _ (c .before .if2 .left), ne-eqb _ _ (c .if3 .left))
+returns-4 c = rw (c .match .keys4)
+
+returns-5 : tie.Need-returns-5
+returns-5 c = rw (c .match .keys5)
+
+returns-6 : tie.Need-returns-6
+returns-6 c = rw (c .match .keys6)
+
+returns-7 : tie.Need-returns-7
+returns-7 c = rw (c .match .keys7)
+
+returns-8 : tie.Need-returns-8
+returns-8 c = let m = c .match .rest in simp (ne-eqb _ 0 (m .0 .0 .0 .0 .0 .0 .1), ne-eqb _ 1 (m .0 .0 .0 .0 .0 .1), ne-eqb _ 2 (m .0 .0 .0 .0 .1), ne-eqb _ 3 (m .0 .0 .0 .1), ne-eqb _ 4 (m .0 .0 .1), ne-eqb _ 5 (m .0 .1), ne-eqb _ 6 (m .1))
 
 pub doing-at-spec : {M : Type 1} → statement M
-doing-at-spec = tie.close (tie.spec returns returns-2 returns-3 returns-4)
+doing-at-spec =
+    tie.close
+    (tie.spec returns returns-2 returns-3 returns-4 returns-5 returns-6 returns-7 returns-8)

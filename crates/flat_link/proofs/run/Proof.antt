@@ -1,9 +1,9 @@
 -- With the numbers in range this is the loop of the link, flat; with one out of range nothing is touched.
-use Rattle.flat_link.proofs.Links.{ran-known, ran-unknown}
-use mathlib.Core.Path.{sym, _∙_}
 use borrow.Author.Needs.{needs}
 use Rattle.flat_link.proofs.run.Statement.{statement}
 use Rattle.flat_link.proofs.run.Tie as tie
+use mathlib.Core.Path.{sym, _∙_}
+use Rattle.flat_link.proofs.Links.{ran-known, ran-unknown}
 
 has-tags-requires : tie.Need-has-tags-requires
 has-tags-requires c κs = search needs
@@ -20,11 +20,11 @@ flat-ran-requires c κs = search needs
 same-length : tie.Need-same-length
 same-length c = search needs
 
+same-length-2 : tie.Need-same-length-2
+same-length-2 c = search needs
+
 returns : tie.Need-returns
-returns c =
-    let q = c .before .before .before in
-    let s = q .before .before .before .before in
-    ran-known (sym (s .before .before .has-tags .ensures) ∙ s .before .if1 .taken) (s .unflattened .ensures) (q .run .ensures) (c .flat-ran .ensures)
+returns c = ran-known (sym (c .before .before .before .before .before .before .before .before .before .before .before .before .has-tags .ensures) ∙ c .before .before .before .before .before .before .before .before .before .before .before .if1 .taken) (c .before .before .before .before .before .before .before .before .before .before .unflattened .ensures) (c .before .before .before .before .before .run .ensures) (c .flat-ran .ensures)
 
 unknown-requires : tie.Need-unknown-requires
 unknown-requires c κs = search needs
@@ -41,6 +41,7 @@ run-spec =
     run-requires
     flat-ran-requires
     same-length
+    same-length-2
     returns
     unknown-requires
     returns-2)

@@ -10,7 +10,7 @@ doing-at-requires : tie.Need-doing-at-requires
 doing-at-requires c κs = search needs
 
 returns : tie.Need-returns
-returns c = rw (c .before .before .before .wait-at .ensures, c .before .doing-at .ensures)
+returns c = rw (c .before .before .before .before .wait-at .ensures, c .before .before .doing-at .ensures)
 
 pub unflattened-spec : {M : Type 1} → statement M
 unflattened-spec = tie.close (tie.spec wait-at-requires doing-at-requires returns)

@@ -1,8 +1,44 @@
--- Each arm is the rule at that answer.
-use Rattle.link_loop.specs.Run.{passes}
+-- Each answer ends the loop or does not, whatever bytes are lent.
 use borrow.Author.Needs.{needs}
 use Rattle.link_loop.proofs.ends.Statement.{statement}
 use Rattle.link_loop.proofs.ends.Tie as tie
+use Rattle.serial_rules.specs.Record.{passes}
+
+enum-told : tie.Need-enum-told
+enum-told c = search needs
+
+enum-told-2 : tie.Need-enum-told-2
+enum-told-2 c = search needs
+
+enum-told-3 : tie.Need-enum-told-3
+enum-told-3 c = search needs
+
+enum-told-4 : tie.Need-enum-told-4
+enum-told-4 c = search needs
+
+enum-told-5 : tie.Need-enum-told-5
+enum-told-5 c = search needs
+
+enum-told-6 : tie.Need-enum-told-6
+enum-told-6 c = search needs
+
+enum-told-7 : tie.Need-enum-told-7
+enum-told-7 c = search needs
+
+enum-told-8 : tie.Need-enum-told-8
+enum-told-8 c = search needs
+
+enum-told-9 : tie.Need-enum-told-9
+enum-told-9 c = search needs
+
+enum-told-10 : tie.Need-enum-told-10
+enum-told-10 c = search needs
+
+enum-told-11 : tie.Need-enum-told-11
+enum-told-11 c = search needs
+
+enum-told-12 : tie.Need-enum-told-12
+enum-told-12 c = search needs
 
 returns : tie.Need-returns
 unfolding passes
@@ -40,19 +76,34 @@ returns-9 : tie.Need-returns-9
 unfolding passes
 returns-9 c = simp (c .enum-told9 .given .1)
 
+returns-10 : tie.Need-returns-10
+unfolding passes
+returns-10 c = simp (c .enum-told10 .given .1)
+
+returns-11 : tie.Need-returns-11
+unfolding passes
+returns-11 c = simp (c .enum-told11 .given .1)
+
+returns-12 : tie.Need-returns-12
+unfolding passes
+returns-12 c = simp (c .enum-told12 .given .1)
+
 pub ends-spec : {M : Type 1} → statement M
 ends-spec =
     tie.close
     (tie.spec
-    (λ c. search needs)
-    (λ c. search needs)
-    (λ c. search needs)
-    (λ c. search needs)
-    (λ c. search needs)
-    (λ c. search needs)
-    (λ c. search needs)
-    (λ c. search needs)
-    (λ c. search needs)
+    enum-told
+    enum-told-2
+    enum-told-3
+    enum-told-4
+    enum-told-5
+    enum-told-6
+    enum-told-7
+    enum-told-8
+    enum-told-9
+    enum-told-10
+    enum-told-11
+    enum-told-12
     returns
     returns-2
     returns-3
@@ -61,4 +112,7 @@ ends-spec =
     returns-6
     returns-7
     returns-8
-    returns-9)
+    returns-9
+    returns-10
+    returns-11
+    returns-12)

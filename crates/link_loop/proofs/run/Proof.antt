@@ -1,116 +1,119 @@
--- Turn i has passed over the reports of the first i raw bytes, and their notes stand in the room, where one for each byte would fit.
-use denote.Ref.{now}
-use Prim.Native.Nat.{_+_, _-_, _≤_}
-use native.Mathlib.Omega.{arith}
-use mathlib.Core.Path.{refl, sym, _∙_}
-use lib.ListN.{length, take, length-take, length-drop}
-use Rattle.escape.proofs.Laws.{put-length}
-use Rattle.link_loop.specs.Run.{passes}
-use Rattle.link_loop.proofs.Notes.{ends-lent, Passing, skips, skip-within, nothing, note-short, no-room, all-read, one-more, ended}
-use Rattle.link_loop.proofs.Plains.{still-usable}
-use borrow.Author.Tests.{not-false}
-use borrow.Author.Needs.{needs}
+-- Turn i has passed over the reports of the first i raw bytes, and their notes and data stand in the lent bytes, where those of all would fit.
 use Rattle.link_loop.proofs.run.Statement.{statement}
 use Rattle.link_loop.proofs.run.Tie as tie
+use Prim.Native.Nat.{_+_, _-_, _≤_}
+use native.Mathlib.Omega.{arith}
+use mathlib.Core.Path.{refl, sym, ap, _∙_}
+use borrow.Author.Needs.{needs}
+use borrow.Author.Tests.{not-false}
+use denote.Ref.{now}
+use lib.ListN.{length, take}
+use Rattle.serial_rules.specs.Record.{passes}
+use Rattle.link.specs.declared.Answer.the-variants as variant
+use Rattle.link_loop.specs.Parts.{endedFrom}
+use Rattle.link_loop.proofs.Notes.{ends-lent, Passing, room-length, content-length, passed-over, over-within, begins, no-room, all-read, counts, one-more, ended, step-low}
+use Rattle.link_loop.proofs.Plains.{still-usable}
 
 abbrev Inv-loop : tie.InvT-loop
-Inv-loop raw reply₀ own₀ room₀ at₀ i₀ noted₀ reply own room at i noted =
-    (i ≤ length raw) × (noted ≤ i) × Passing at₀ reply₀ own₀ (take i raw) room₀ at reply own room noted
+Inv-loop raw reply₀ own₀ room₀ content₀ at₀ i₀ log₀ reply own room content at i log =
+    (i ≤ length raw) × Passing at₀ reply₀ own₀ (take i raw) room₀ content₀ at reply own room content log
 
 abbrev μ-loop : tie.MeasureT-loop
-μ-loop raw reply₀ own₀ room₀ at₀ i₀ noted₀ reply own room at i noted = length raw - i
+μ-loop raw reply₀ own₀ room₀ content₀ at₀ i₀ log₀ reply own room content at i log = length raw - i
+
+lacks-room-requires : tie.Need-lacks-room-requires Inv-loop μ-loop
+lacks-room-requires c κs = search needs
+
+new-requires : tie.Need-new-requires Inv-loop μ-loop
+new-requires c κs = search needs
+
+ended-requires : tie.Need-ended-requires Inv-loop μ-loop
+ended-requires c κs = search needs
 
 returns : tie.Need-returns Inv-loop μ-loop
-returns c = no-room (c .before .if1 .taken) (c .ended .ensures)
+returns c = no-room (sym (c .before .before .before .lacks-room .ensures) ∙ c .before .before .if1 .taken) (c .ended .ensures ∙ ap (endedFrom (c .before .before .before .before .before .before .before .args .link) (variant.Refused 8) 0) (c .before .new .ensures))
+
+new-requires-2 : tie.Need-new-requires-2 Inv-loop μ-loop
+new-requires-2 c κs = search needs
 
 loop-holds : tie.Need-loop-holds Inv-loop μ-loop
-loop-holds c = (omega arith, omega arith, nothing _ _ _ _)
+loop-holds c = (omega arith, rw (c .new2 .ensures) (begins _ _ _ _ _))
+
+shared-slice-read-step : tie.Need-shared-slice-read-step Inv-loop μ-loop
+shared-slice-read-step c = search needs
+
+step-requires : tie.Need-step-requires Inv-loop μ-loop
+step-requires c κs = search needs
+
+add-i : tie.Need-add-i Inv-loop μ-loop
+add-i c = search needs
+
+enum-known-answer : tie.Need-enum-known-answer Inv-loop μ-loop
+enum-known-answer c = search needs
+
+ends-requires : tie.Need-ends-requires Inv-loop μ-loop
+ends-requires c κs = search needs
+
+ended-requires-2 : tie.Need-ended-requires-2 Inv-loop μ-loop
+ended-requires-2 c κs = search needs
 
 same-length : tie.Need-same-length Inv-loop μ-loop
-same-length c = put-length (c .before .before .before .before .before .before .before .before .before .before .loop .inv .2 .put)
-
-returns-2 : tie.Need-returns-2 Inv-loop μ-loop
-returns-2 c =
-    let q = c .before .before .before .before .before in
-    let t = q .before .before .before .before in
-    let l = t .before .loop in
-    let raw = now (t .before .before .before .before .before .args .raw) in
-    let ends = sym (c .before .before .ends .ensures) ∙ c .before .if2 .taken in
-    ended raw (l .i) (l .noted) (t .before .before .if1 .left) (l .inv .2) (t .loop-test .taken) (q .step .ensures) (q .step .result .answer) refl ends (c .ended2 .ensures)
-
-mul-put-note : tie.Need-mul-put-note Inv-loop μ-loop
-mul-put-note c = let h = put-length (c .before .before .before .before .before .before .before .before .before .loop .inv .2 .put) in omega arith
-
-sub-put-note : tie.Need-sub-put-note Inv-loop μ-loop
-sub-put-note c = let h = put-length (c .before .before .before .before .before .before .before .before .before .loop .inv .2 .put) in omega arith
-
-part-put-note-start : tie.Need-part-put-note-start Inv-loop μ-loop
-part-put-note-start c = let h = put-length (c .before .before .before .before .before .before .before .before .before .loop .inv .2 .put) in omega arith
-
-put-note-requires : tie.Need-put-note-requires Inv-loop μ-loop
-put-note-requires c κs =
-    let h = put-length (c .before .before .before .before .before .before .before .before .before .before .loop .inv .2 .put) in
-    simp (length-take, length-drop) (omega arith)
-
-add-i-2 : tie.Need-add-i-2 Inv-loop μ-loop
-add-i-2 c =
-    let t = c .before .before .before .before .before .before .before .before .before .before .before .before .before .before .before .before in
-    let raw = now (t .before .before .before .before .before .args .raw) in
-    omega (arith, skip-within raw (t .before .loop .i + 1) (omega arith) (c .before .pass .ensures))
-
-loop-less : tie.Need-loop-less Inv-loop μ-loop
-loop-less c =
-    let t = c .before .before .before .before .before .before .before .before .before .before .before .before .before .before .before .before in
-    let raw = now (t .before .before .before .before .before .args .raw) in
-    omega (arith, skip-within raw (t .before .loop .i + 1) (omega arith) (c .before .pass .ensures))
-
-add-noted : tie.Need-add-noted Inv-loop μ-loop
-add-noted c =
-    let h = note-short (c .before .before .before .before .before .before .before .before .step .result .answer) in
-    omega (arith, c .before .before .put-note .ensures .count)
-
-pass-requires : tie.Need-pass-requires Inv-loop μ-loop
-pass-requires c κs =
-    let q = c .before .before .before .before .before .before in
-    let t = q .before .before .before .before in
-    let goes = sym (q .before .ends .ensures) ∙ q .if2 .left in
-    let a = t .step .result .answer in
-    (still-usable (t .step .ensures) (not-false _ (ends-lent a _ _ ∙ goes)), search needs)
-
-loop-again : tie.Need-loop-again Inv-loop μ-loop
-loop-again c =
-    let o = c .before .before .before .before in
-    let q = o .before .before .before .before .before .before .before .before in
-    let t = q .before .before .before .before in
-    let l = t .before .loop in
-    let raw = now (t .before .before .before .before .before .args .raw) in
-    let w = o .before .before .put-note .ensures in
-    let h = note-short (q .step .result .answer) in
-    let goes = sym (o .before .before .before .before .before .ends .ensures) ∙ o .before .before .before .before .if2 .left in
-    let p = one-more raw (l .i) (l .noted) (t .before .before .if1 .left) (l .inv .2) (t .loop-test .taken) (q .step .ensures) (o .before .before .put-note .result) goes w in
-    let d = c .before .pass .ensures in
-    (skip-within raw (l .i + 1) (omega arith) d, omega (arith, w .count), skips raw (l .i + 1) p d (c .passed .ensures))
+same-length c = room-length (c .before .before .before .before .before .before .before .before .before .before .loop .inv .1)
 
 same-length-2 : tie.Need-same-length-2 Inv-loop μ-loop
-same-length-2 c = put-length (c .before .before .before .before .before .before .before .before .before .before .loop .inv .2 .put)
+same-length-2 c = content-length (c .before .before .before .before .before .before .before .before .before .before .loop .inv .1)
+
+returns-2 : tie.Need-returns-2 Inv-loop μ-loop
+returns-2 c = ended (now (c .before .before .before .before .before .before .before .before .before .before .before .before .before .before .before .before .before .args .raw)) (c .before .before .before .before .before .before .before .before .before .before .loop .i) (sym (c .before .before .before .before .before .before .before .before .before .before .before .before .before .lacks-room .ensures) ∙ c .before .before .before .before .before .before .before .before .before .before .before .before .if1 .left) (c .before .before .before .before .before .before .before .before .before .before .loop .inv .0) (c .before .before .before .before .before .before .before .before .before .before .loop .inv .1) (c .before .before .before .before .before .before .before .before .before .loop-test .taken) (c .before .before .before .before .before .step .ensures) (c .before .before .before .before .before .step .result .answer) refl (sym (c .before .before .ends .ensures) ∙ c .before .if2 .taken) (c .ended2 .ensures)
+
+add-requires : tie.Need-add-requires Inv-loop μ-loop
+add-requires c κs = search needs
+
+sub-pass-over : tie.Need-sub-pass-over Inv-loop μ-loop
+sub-pass-over c = search needs
+
+part-pass-over-start : tie.Need-part-pass-over-start Inv-loop μ-loop
+part-pass-over-start c = search needs
+
+part-pass-over-end : tie.Need-part-pass-over-end Inv-loop μ-loop
+part-pass-over-end c = search needs
+
+pass-over-requires : tie.Need-pass-over-requires Inv-loop μ-loop
+pass-over-requires c κs = (still-usable (c .before .before .before .before .before .before .before .before .before .before .before .before .before .before .before .before .before .step .ensures) (not-false _ (ends-lent (c .before .before .before .before .before .before .before .before .before .before .before .before .before .before .before .before .before .step .result .answer) _ _ ∙ (sym (c .before .before .before .before .before .before .before .before .before .before .before .before .before .before .ends .ensures) ∙ c .before .before .before .before .before .before .before .before .before .before .before .before .before .if2 .left))), search needs)
+
+add-i-2 : tie.Need-add-i-2 Inv-loop μ-loop
+add-i-2 c = omega (arith, c .before .before .before .before .before .before .before .before .before .before .before .before .before .before .before .before .before .before .before .before .before .before .before .before .before .before .before .before .before .before .before .before .before .before .before .before .before .good .1 .0, (over-within (now (c .before .before .before .before .before .before .before .before .before .before .before .before .before .before .before .before .before .before .before .before .before .before .before .before .before .before .before .before .before .before .before .before .before .before .before .before .before .args .raw)) (c .before .before .before .before .before .before .before .before .before .before .before .before .before .before .before .before .before .before .before .before .before .before .before .before .before .before .before .before .before .before .loop .i + 1) (step-low (now (c .before .before .before .before .before .before .before .before .before .before .before .before .before .before .before .before .before .before .before .before .before .before .before .before .before .before .before .before .before .before .before .before .before .before .before .before .before .args .raw)) (c .before .before .before .before .before .before .before .before .before .before .before .before .before .before .before .before .before .before .before .before .before .before .before .before .before .before .before .before .before .before .loop .i) (c .before .before .before .before .before .before .before .before .before .before .before .before .before .before .before .before .before .before .before .before .before .before .before .before .before .before .before .before .before .loop-test .taken)) (c .before .before .before .before .before .before .before .pass-over .ensures)))
+
+loop-less : tie.Need-loop-less Inv-loop μ-loop
+loop-less c = omega (arith, (over-within (now (c .before .before .before .before .before .before .before .before .before .before .before .before .before .before .before .before .before .before .before .before .before .before .before .before .before .before .before .before .before .before .before .before .before .before .before .before .before .args .raw)) (c .before .before .before .before .before .before .before .before .before .before .before .before .before .before .before .before .before .before .before .before .before .before .before .before .before .before .before .before .before .before .loop .i + 1) (step-low (now (c .before .before .before .before .before .before .before .before .before .before .before .before .before .before .before .before .before .before .before .before .before .before .before .before .before .before .before .before .before .before .before .before .before .before .before .before .before .args .raw)) (c .before .before .before .before .before .before .before .before .before .before .before .before .before .before .before .before .before .before .before .before .before .before .before .before .before .before .before .before .before .before .loop .i) (c .before .before .before .before .before .before .before .before .before .before .before .before .before .before .before .before .before .before .before .before .before .before .before .before .before .before .before .before .before .loop-test .taken)) (c .before .before .before .before .before .before .before .pass-over .ensures)))
+
+loop-again : tie.Need-loop-again Inv-loop μ-loop
+loop-again c = ((over-within (now (c .before .before .before .before .before .before .before .before .before .before .before .before .before .before .before .before .before .before .before .before .before .before .before .before .before .before .before .before .before .before .before .before .before .before .before .before .before .args .raw)) (c .before .before .before .before .before .before .before .before .before .before .before .before .before .before .before .before .before .before .before .before .before .before .before .before .before .before .before .before .before .before .loop .i + 1) (step-low (now (c .before .before .before .before .before .before .before .before .before .before .before .before .before .before .before .before .before .before .before .before .before .before .before .before .before .before .before .before .before .before .before .before .before .before .before .before .before .args .raw)) (c .before .before .before .before .before .before .before .before .before .before .before .before .before .before .before .before .before .before .before .before .before .before .before .before .before .before .before .before .before .before .loop .i) (c .before .before .before .before .before .before .before .before .before .before .before .before .before .before .before .before .before .before .before .before .before .before .before .before .before .before .before .before .before .loop-test .taken)) (c .before .before .before .before .before .before .before .pass-over .ensures)), passed-over (now (c .before .before .before .before .before .before .before .before .before .before .before .before .before .before .before .before .before .before .before .before .before .before .before .before .before .before .before .before .before .before .before .before .before .before .before .before .before .args .raw)) (c .before .before .before .before .before .before .before .before .before .before .before .before .before .before .before .before .before .before .before .before .before .before .before .before .before .before .before .before .before .before .loop .i + 1) (one-more (now (c .before .before .before .before .before .before .before .before .before .before .before .before .before .before .before .before .before .before .before .before .before .before .before .before .before .before .before .before .before .before .before .before .before .before .before .before .before .args .raw)) (c .before .before .before .before .before .before .before .before .before .before .before .before .before .before .before .before .before .before .before .before .before .before .before .before .before .before .before .before .before .before .loop .i) (sym (c .before .before .before .before .before .before .before .before .before .before .before .before .before .before .before .before .before .before .before .before .before .before .before .before .before .before .before .before .before .before .before .before .before .lacks-room .ensures) ∙ c .before .before .before .before .before .before .before .before .before .before .before .before .before .before .before .before .before .before .before .before .before .before .before .before .before .before .before .before .before .before .before .before .if1 .left) (c .before .before .before .before .before .before .before .before .before .before .before .before .before .before .before .before .before .before .before .before .before .before .before .before .before .before .before .before .before .before .loop .inv .0) (c .before .before .before .before .before .before .before .before .before .before .before .before .before .before .before .before .before .before .before .before .before .before .before .before .before .before .before .before .before .before .loop .inv .1) (c .before .before .before .before .before .before .before .before .before .before .before .before .before .before .before .before .before .before .before .before .before .before .before .before .before .before .before .before .before .loop-test .taken) (c .before .before .before .before .before .before .before .before .before .before .before .before .before .before .before .before .before .before .before .before .before .before .before .before .before .step .ensures) (sym (c .before .before .before .before .before .before .before .before .before .before .before .before .before .before .before .before .before .before .before .before .before .before .ends .ensures) ∙ c .before .before .before .before .before .before .before .before .before .before .before .before .before .before .before .before .before .before .before .before .before .if2 .left) (counts (now (c .before .before .before .before .before .before .before .before .before .before .before .before .before .before .before .before .before .before .before .before .before .before .before .before .before .before .before .before .before .before .before .before .before .before .before .before .before .args .raw)) (c .before .before .before .before .before .before .before .before .before .before .before .before .before .before .before .before .before .before .before .before .before .before .before .before .before .before .before .before .before .before .loop .i) (sym (c .before .before .before .before .before .before .before .before .before .before .before .before .before .before .before .before .before .before .before .before .before .before .before .before .before .before .before .before .before .before .before .before .before .lacks-room .ensures) ∙ c .before .before .before .before .before .before .before .before .before .before .before .before .before .before .before .before .before .before .before .before .before .before .before .before .before .before .before .before .before .before .before .before .if1 .left) (c .before .before .before .before .before .before .before .before .before .before .before .before .before .before .before .before .before .before .before .before .before .before .before .before .before .before .before .before .before .before .loop .inv .0) (c .before .before .before .before .before .before .before .before .before .before .before .before .before .before .before .before .before .before .before .before .before .before .before .before .before .before .before .before .before .before .loop .inv .1) (c .before .before .before .before .before .before .before .before .before .before .before .before .before .before .before .before .before .before .before .before .before .before .before .before .before .before .before .before .before .loop-test .taken) (c .before .before .before .before .before .before .before .before .before .before .before .before .before .before .before .before .before .before .before .before .before .before .before .before .before .step .ensures) (omega (arith, c .before .before .before .before .before .before .before .before .before .before .before .before .before .before .before .before .before .before .before .before .before .before .before .before .before .before .before .before .before .before .before .before .before .before .before .before .before .good .1 .0)) (omega (arith, c .before .before .before .before .before .before .before .before .before .before .before .before .before .before .before .before .before .before .before .before .before .before .before .before .before .before .before .before .before .before .before .before .before .before .before .before .before .good .1 .1 .1 .1 .1 .0)) (c .before .before .before .before .before .before .before .before .before .before .before .before .before .before .before .before .before .before .before .add-arg2 .given .0)) (c .before .before .before .before .before .before .before .before .before .before .before .before .before .before .before .before .add .ensures)) (c .before .before .before .before .before .before .before .pass-over .ensures))
+
+ended-requires-3 : tie.Need-ended-requires-3 Inv-loop μ-loop
+ended-requires-3 c κs = search needs
+
+same-length-3 : tie.Need-same-length-3 Inv-loop μ-loop
+same-length-3 c = room-length (c .before .before .before .before .before .before .before .before .before .before .loop .inv .1)
+
+same-length-4 : tie.Need-same-length-4 Inv-loop μ-loop
+same-length-4 c = content-length (c .before .before .before .before .before .before .before .before .before .before .loop .inv .1)
 
 returns-3 : tie.Need-returns-3 Inv-loop μ-loop
 unfolding passes
-returns-3 c =
-    let q = c .before .before .before .before .before in
-    let t = q .before .before .before .before in
-    let l = t .before .loop in
-    let raw = now (t .before .before .before .before .before .args .raw) in
-    let a = c .before .before .answer .given in
-    ended raw (l .i) (l .noted) (t .before .before .if1 .left) (l .inv .2) (t .loop-test .taken) (q .step .ensures) _ (a .1) refl (c .ended3 .ensures)
+returns-3 c = ended (now (c .before .before .before .before .before .before .before .before .before .before .before .before .before .before .before .before .before .args .raw)) (c .before .before .before .before .before .before .before .before .before .before .loop .i) (sym (c .before .before .before .before .before .before .before .before .before .before .before .before .before .lacks-room .ensures) ∙ c .before .before .before .before .before .before .before .before .before .before .before .before .if1 .left) (c .before .before .before .before .before .before .before .before .before .before .loop .inv .0) (c .before .before .before .before .before .before .before .before .before .before .loop .inv .1) (c .before .before .before .before .before .before .before .before .before .loop-test .taken) (c .before .before .before .before .before .step .ensures) _ (c .before .before .answer .given .1) refl (c .ended3 .ensures)
 
-same-length-3 : tie.Need-same-length-3 Inv-loop μ-loop
-same-length-3 c = put-length (c .before .before .loop .inv .2 .put)
+ended-requires-4 : tie.Need-ended-requires-4 Inv-loop μ-loop
+ended-requires-4 c κs = search needs
+
+same-length-5 : tie.Need-same-length-5 Inv-loop μ-loop
+same-length-5 c = room-length (c .before .before .loop .inv .1)
+
+same-length-6 : tie.Need-same-length-6 Inv-loop μ-loop
+same-length-6 c = content-length (c .before .before .loop .inv .1)
 
 returns-4 : tie.Need-returns-4 Inv-loop μ-loop
-returns-4 c =
-    let l = c .before .before .loop in
-    all-read (now (c .before .before .before .before .before .before .args .raw)) (l .i) (l .noted) (c .before .before .before .if1 .left) (l .inv .2) (omega arith) (c .ended4 .ensures)
+returns-4 c = all-read (now (c .before .before .before .before .before .before .before .before .before .args .raw)) (c .before .before .loop .i) (sym (c .before .before .before .before .before .lacks-room .ensures) ∙ c .before .before .before .before .if1 .left) (c .before .before .loop .inv .0) (c .before .before .loop .inv .1) (omega arith) (c .ended4 .ensures)
 
 pub run-spec : {M : Type 1} → statement M
 run-spec =
@@ -118,34 +121,34 @@ run-spec =
     (tie.spec
     Inv-loop
     μ-loop
-    (λ c κs. search needs)
+    lacks-room-requires
+    new-requires
+    ended-requires
     returns
+    new-requires-2
     loop-holds
-    (λ c. search needs)
-    (λ c κs. search needs)
-    (λ c. search needs)
-    (λ c. search needs)
-    (λ c κs. search needs)
-    (λ c κs. search needs)
+    shared-slice-read-step
+    step-requires
+    add-i
+    enum-known-answer
+    ends-requires
+    ended-requires-2
     same-length
+    same-length-2
     returns-2
-    mul-put-note
-    sub-put-note
-    part-put-note-start
-    (λ c. search needs)
-    put-note-requires
-    add-noted
-    (λ c. search needs)
-    (λ c. search needs)
-    (λ c. search needs)
-    pass-requires
-    (λ c κs. c .pass .ensures .below)
+    add-requires
+    sub-pass-over
+    part-pass-over-start
+    part-pass-over-end
+    pass-over-requires
     add-i-2
     loop-less
     loop-again
-    (λ c κs. search needs)
-    same-length-2
-    returns-3
-    (λ c κs. search needs)
+    ended-requires-3
     same-length-3
+    same-length-4
+    returns-3
+    ended-requires-4
+    same-length-5
+    same-length-6
     returns-4)

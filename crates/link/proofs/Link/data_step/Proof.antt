@@ -8,7 +8,7 @@ use Rattle.link.proofs.Link.data_step.Tie as tie
 returns : tie.Need-returns
 returns c =
     let a = c .before .before .before .before .before .before .before .before .args in
-    data-outside (a .self) (now (a .reply)) (now (a .own)) (a .b) (c .before .before .before .before .enum-told .given .1) (c .before .before .reply-step .ensures)
+    data-outside (a .self) (now (a .reply)) (now (a .own)) (a .b) (c .before .before .before .before .enum-told .given .1) (c .before .before .outer-step .ensures)
 
 returns-2 : tie.Need-returns-2
 returns-2 c = c .before .before .own-step .ensures (now (c .before .before .before .before .before .before .before .before .before .args .reply))

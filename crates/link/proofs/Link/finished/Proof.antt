@@ -1,52 +1,72 @@
 -- Each arm is the end of that action, whose law says what the record left promises.
-use denote.Ref.{now}
-use native.Mathlib.Omega.{arith}
-use mathlib.Core.Path.{ap, _∙_}
-use Rattle.link.specs.declared.Answer.{Answer}
-use Rattle.link.specs.declared.Wait.the-variants.{Idle}
-use Rattle.link.specs.Parts.{restingWith}
-use Rattle.link.proofs.Steps.{error-ended, event-ended, address-ended}
 use borrow.Author.Needs.{needs}
 use Rattle.link.proofs.Link.finished.Statement.{statement}
 use Rattle.link.proofs.Link.finished.Tie as tie
+use Prim.Native.Nat.{_<_}
+use mathlib.Core.Path.{ap, subst, _∙_}
+use native.Mathlib.Omega.{arith}
+use denote.Ref.{now}
+use Rattle.actions.specs.declared.Action.{Action}
+use Rattle.link.specs.declared.Answer.{Answer}
+use Rattle.link.specs.declared.Wait.the-variants.{Idle}
+use Rattle.link.specs.declared.Doing.the-variants.{Quiet, Open}
+use Rattle.link.specs.View.{nestRoom}
+use Rattle.link.specs.Parts.{goingFrom, placedFrom, restingWith}
+use Rattle.link.proofs.Steps.{error-ended, event-ended, address-ended, block-ended}
+
+told-by-requires : tie.Need-told-by-requires
+told-by-requires c κs = search needs
+
+enum-told : tie.Need-enum-told
+enum-told c = search needs
+
+resting-requires : tie.Need-resting-requires
+resting-requires c κs = search needs
+
+enum-told-2 : tie.Need-enum-told-2
+enum-told-2 c = search needs
+
+going-requires : tie.Need-going-requires
+going-requires c κs = search needs
+
+enum-known-action : tie.Need-enum-known-action
+enum-known-action c = search needs
+
+placed-requires : tie.Need-placed-requires
+placed-requires c κs = subst (λ (a : Action). c .before .before .before .before .before .args .self .nested < nestRoom (Open a)) (c .before .action .given .1) (c .before .before .before .before .before .pre .2)
+
+enum-told-3 : tie.Need-enum-told-3
+enum-told-3 c = search needs
+
+going-requires-2 : tie.Need-going-requires-2
+going-requires-2 c κs = search needs
 
 returns : tie.Need-returns
-returns c =
-    let s = c .before .before .before .before .before .before .before in
-    let q = c .resting .ensures ∙ ap (λ (f : Answer). restingWith f Idle 0) (c .before .failure .ensures) in
-    error-ended (s .args .self) (now (s .args .own)) (c .before .before .before .before .enum-told .given .1) (s .pre .1) (omega arith) q
+returns c = error-ended (c .before .before .before .before .before .args .self) (now (c .before .before .before .before .before .args .own)) (c .before .enum-told .given .1) (c .before .before .before .before .before .pre .1 (c .before .enum-told .given .1)) (omega arith) (c .resting .ensures ∙ ap (λ (n : Answer). restingWith n Idle 0) (c .before .before .before .told-by .ensures))
 
 returns-2 : tie.Need-returns-2
-returns-2 c =
-    let s = c .before .before .before .before .before .before .before in
-    event-ended (s .args .self) (now (s .args .own)) (c .before .before .before .before .enum-told2 .given .1) (s .pre .0) (c .going .ensures)
+returns-2 c = event-ended (c .before .before .before .before .before .args .self) (now (c .before .before .before .before .before .args .own)) (c .before .before .before .before .before .pre .0) (c .before .enum-told2 .given .1) (c .going .ensures ∙ ap (λ (n : Answer). goingFrom (c .before .before .before .before .before .args .self) n Quiet 0) (c .before .before .before .told-by .ensures))
 
 returns-3 : tie.Need-returns-3
-returns-3 c =
-    let s = c .before .before .before .before .before .before .before .before in
-    address-ended (s .args .self) (now (s .args .own)) (c .before .before .before .before .before .enum-told3 .given .1) (s .pre .0) (c .going2 .ensures)
+returns-3 c = address-ended (c .before .before .before .before .before .before .args .self) (now (c .before .before .before .before .before .before .args .own)) (c .before .before .before .before .before .before .pre .0) (c .before .before .action .given .1) (c .before .before .before .before .before .before .pre .2) (c .placed .ensures ∙ ap (placedFrom (c .before .before .before .before .before .before .args .self) (c .before .before .action .given .0 .0)) (c .before .before .before .before .told-by .ensures))
+
+returns-4 : tie.Need-returns-4
+returns-4 c = block-ended (c .before .before .before .before .before .args .self) (now (c .before .before .before .before .before .args .own)) (c .before .before .before .before .before .pre .0) (c .before .enum-told3 .given .1) (omega arith) (c .going2 .ensures ∙ ap (λ (n : Answer). goingFrom (c .before .before .before .before .before .args .self) n Quiet 0) (c .before .before .before .told-by .ensures))
 
 pub finished-spec : {M : Type 1} → statement M
 finished-spec =
     tie.close
     (tie.spec
-    (λ c. search needs)
-    (λ c. search needs)
-    (λ c. search needs)
-    (λ c. search needs)
-    (λ c κs. search needs)
-    (λ c κs. search needs)
-    (λ c. search needs)
-    (λ c. search needs)
-    (λ c. search needs)
-    (λ c. search needs)
-    (λ c κs. search needs)
-    (λ c. search needs)
-    (λ c. search needs)
-    (λ c. search needs)
-    (λ c. search needs)
-    (λ c. search needs)
-    (λ c κs. search needs)
+    told-by-requires
+    enum-told
+    resting-requires
+    enum-told-2
+    going-requires
+    enum-known-action
+    placed-requires
+    enum-told-3
+    going-requires-2
     returns
     returns-2
-    returns-3)
+    returns-3
+    returns-4)

@@ -3,7 +3,7 @@ use denote.Ref.{now}
 use native.Mathlib.Omega.{arith}
 use lib.ListN.{length-set}
 use Rattle.shapes.proofs.Turned.{turned}
-use Rattle.link.proofs.Steps.{own-full, own-refused, own-more, own-ended}
+use Rattle.link.proofs.Steps.{error-full, own-nested, own-refused, own-more, own-ended}
 use borrow.Author.Needs.{needs}
 use Rattle.link.proofs.Link.own_step.Statement.{statement}
 use Rattle.link.proofs.Link.own_step.Tie as tie
@@ -13,15 +13,15 @@ finished-requires c κs =
     let q = c .before .before .before in
     let s = q .before .before .before in
     let a = s .args in
-    let t = turned (q .before .own-shape .result) (a .self .held) (a .b) (q .before .own-shape .ensures) (q .turn .ensures) (c .before .enum-told2 .given .1) in
-    (s .pre .0, own-full (a .self) (a .b) (s .pre .1) (s .pre .0) t, omega arith, simp length-set (omega arith))
+    let t = turned (q .before .shape .result) (a .self .held) (a .b) (q .before .shape .ensures) (q .turn .ensures) (c .before .enum-told2 .given .1) in
+    (s .pre .0, error-full (a .self .held) (a .b) t, own-nested (a .self) (s .pre .1) (s .pre .0), omega arith, simp length-set (omega arith))
 
 returns : tie.Need-returns
 returns c =
     let q = c .before .before .before .before in
     let s = q .before .before .before in
     let a = s .args in
-    let t = turned (q .before .own-shape .result) (a .self .held) (a .b) (q .before .own-shape .ensures) (q .turn .ensures) (c .before .before .turn2 .given .1) in
+    let t = turned (q .before .shape .result) (a .self .held) (a .b) (q .before .shape .ensures) (q .turn .ensures) (c .before .before .turn2 .given .1) in
     own-refused (a .self) (now (a .own)) (a .b) (s .pre .1) (omega arith) t (c .refused .ensures)
 
 returns-2 : tie.Need-returns-2
@@ -29,7 +29,7 @@ returns-2 c =
     let q = c .before .before .before in
     let s = q .before .before .before in
     let a = s .args in
-    let t = turned (q .before .own-shape .result) (a .self .held) (a .b) (q .before .own-shape .ensures) (q .turn .ensures) (c .before .enum-told .given .1) in
+    let t = turned (q .before .shape .result) (a .self .held) (a .b) (q .before .shape .ensures) (q .turn .ensures) (c .before .enum-told .given .1) in
     own-more (a .self) (now (a .own)) (a .b) (s .pre .1) (omega arith) (s .pre .0) t (c .going .ensures)
 
 returns-3 : tie.Need-returns-3
@@ -37,7 +37,7 @@ returns-3 c =
     let q = c .before .before .before .before in
     let s = q .before .before .before in
     let a = s .args in
-    let t = turned (q .before .own-shape .result) (a .self .held) (a .b) (q .before .own-shape .ensures) (q .turn .ensures) (c .before .before .enum-told2 .given .1) in
+    let t = turned (q .before .shape .result) (a .self .held) (a .b) (q .before .shape .ensures) (q .turn .ensures) (c .before .before .enum-told2 .given .1) in
     own-ended (a .self) (now (a .own)) (a .b) (s .pre .1) (omega arith) (s .pre .0) t (c .finished .ensures)
 
 pub own-step-spec : {M : Type 1} → statement M

@@ -8,7 +8,7 @@ use Rattle.link.proofs.Link.reply_step.Tie as tie
 returns : tie.Need-returns
 returns c =
     let s = c .before .before .before .before in
-    character-told (s .args .self) (now (s .args .reply)) (s .args .b) (s .pre .0) (c .before .enum-told .given .1) (c .going .ensures)
+    character-told (s .args .self) (now (s .args .reply)) (s .args .b) (s .pre .1) (s .pre .0) (c .before .enum-told .given .1) (c .going .ensures)
 
 pub reply-step-spec : {M : Type 1} → statement M
 reply-step-spec =

@@ -13,7 +13,7 @@ returns c =
     let s = q .before .before .before in
     let a = s .args in
     let t = turned (q .before .shape .result) (a .self .got) (a .b) (q .before .shape .ensures) (q .turn .ensures) (c .before .before .turn2 .given .1) in
-    reply-refused (a .self) (now (a .reply)) (a .b) (s .pre .0) (omega arith) t (c .refused .ensures)
+    reply-refused (a .self) (now (a .reply)) (a .b) (s .pre .1) (s .pre .0) (omega arith) t (c .refused .ensures)
 
 returns-2 : tie.Need-returns-2
 returns-2 c =
@@ -21,7 +21,7 @@ returns-2 c =
     let s = q .before .before .before in
     let a = s .args in
     let t = turned (q .before .shape .result) (a .self .got) (a .b) (q .before .shape .ensures) (q .turn .ensures) (c .before .enum-told .given .1) in
-    reply-more (a .self) (now (a .reply)) (a .b) (s .pre .0) (omega arith) t (c .resting .ensures)
+    reply-more (a .self) (now (a .reply)) (a .b) (s .pre .1) (s .pre .0) (omega arith) t (c .resting .ensures)
 
 returns-3 : tie.Need-returns-3
 returns-3 c =
@@ -29,7 +29,7 @@ returns-3 c =
     let s = q .before .before .before in
     let a = s .args in
     let t = turned (q .before .shape .result) (a .self .got) (a .b) (q .before .shape .ensures) (q .turn .ensures) (c .before .enum-told2 .given .1) in
-    reply-ended (a .self) (now (a .reply)) (a .b) (s .pre .0) (omega arith) t (c .resting2 .ensures)
+    reply-ended (a .self) (now (a .reply)) (a .b) (s .pre .1) (s .pre .0) (omega arith) t (c .resting2 .ensures)
 
 pub taking-spec : {M : Type 1} → statement M
 taking-spec =

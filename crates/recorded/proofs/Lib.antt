@@ -1,0 +1,4 @@
+pub mod Walk
+pub mod Parts
+pub mod Cycle
+pub mod Whole

@@ -1,0 +1,408 @@
+-- What the parts of the recorded reader leave: notes one after the other, an action's own bytes, and how an action starts.
+use Prim.Native.Nat.{ℕ, zero, suc, _+_, _-_, _≤_, _<_}
+use native.Mathlib.Omega.{arith}
+use mathlib.Core.Path.{_≡_, refl, sym, ap, subst, _∙_}
+use mathlib.Core.Bool.{Bool, true, false, cond}
+use mathlib.Core.List.{List, [], _∷_, _++_, map}
+use lib.Dec.{eqb, ltb}
+use lib.ListN.{length, take, drop, set, length-take, length-drop, length-set}
+use lib.Seq.{length-take-le, take-set-le, getD-take, getD-at}
+use borrow.Author.Tests.{lt-ltb, ltb-true, le-leb, ne-eqb, leb-true, leb-false}
+use Rattle.serial_rules.specs.Body.{Turn, more, done, refused}
+use Rattle.serial_rules.specs.Fields.{at}
+use Rattle.serial_rules.specs.Reply.{shapeTurn}
+use Rattle.serial_rules.specs.Link as rules
+use Rattle.serial_rules.specs.Record.{closed, passes}
+use Rattle.serial_rules.proofs.Depth.{own-fits}
+use Rattle.serial_rules.proofs.Lent.{take-next}
+use Rattle.serial_rules.proofs.Shapes.{choice, fixed-done, text-done}
+use Rattle.turns.specs.Plain.{isData, none}
+use Rattle.turns.proofs.Plain.{run-all}
+use Rattle.actions.specs.Actions.{targetFor, actionFor}
+use Rattle.actions.specs.declared.Target.{Target}
+use Rattle.actions.specs.declared.Target.the-variants.{Set, Execute, Load, Save}
+use Rattle.actions.specs.declared.Action.{Action}
+use Rattle.actions.specs.declared.Action.the-variants.{Error, Event, Address, Block}
+use Rattle.link.specs.declared.Answer.{Answer}
+use Rattle.link.specs.declared.Answer.the-variants as variant
+use Rattle.link.specs.View.{ownLent, transferFor, reportOf, answerFor, failureFor, toldBy}
+use Rattle.notes.specs.declared.Log.{Log}
+use Rattle.notes.specs.Notes.{Given, longestRun, adds, addsAll}
+use Rattle.notes.specs.Logs.{Holds, dataIn, mostCount, countable, Add-done, joins, joinable, Add-run-done}
+use Rattle.notes.proofs.Laws.{run-within}
+use Rattle.notes.proofs.Counts.{contentIn, content-more, adds-append, notes-most}
+use Rattle.recorded.specs.declared.Loads.{Loads}
+use Rattle.recorded.specs.Walk as walk
+use Rattle.recorded.specs.Walk.{unitAt, Own}
+use Rattle.recorded.specs.Parts.{outcomeOf, Ends, Held, Gives, Whole-done, Halted-done, finishOf, Began-halt, Began-told, Began-opens, Began-done, Load-done, isFifth}
+use Rattle.recorded.proofs.Walk as laws
+use Rattle.recorded.proofs.Walk.{data-near, mark-near}
+
+-- reports given one after the other
+pub gives-none : {log : Log} {n m : ℕ} {notes content : List ℕ} → n ≤ m → Gives [] log n notes content log m notes content
+unfolding addsAll
+gives-none le = record { adds-them = λ G a b h. record { holds = h .holds; few = omega (arith, h .few); small = omega (arith, h .small) } }
+
+pub gives-then : {g l : List rules.Report} {log mid end : Log} {n m k : ℕ} {notes content notes-mid content-mid notes-left content-left : List ℕ}
+    → Gives g log n notes content mid m notes-mid content-mid → Gives l mid m notes-mid content-mid end k notes-left content-left
+    → Gives (g ++ l) log n notes content end k notes-left content-left
+gives-then {g} {l} {end = end} {k = k} {notes-left = notes-left} {content-left} p q = record {
+  adds-them = λ G a b h. subst (λ (x : Given). Held x end k a b notes-left content-left) (sym (adds-append G g l)) (q .adds-them (addsAll G g) a b (p .adds-them G a b h));
+}
+
+pub gives-later : {g : List rules.Report} {log end : Log} {n m k : ℕ} {notes content notes-left content-left : List ℕ} → m ≤ k
+    → Gives g log n notes content end m notes-left content-left → Gives g log n notes content end k notes-left content-left
+gives-later le p = record {
+  adds-them = λ G a b h. let w = p .adds-them G a b h in record { holds = w .holds; few = omega (arith, w .few); small = omega (arith, w .small) };
+}
+
+-- each report has one note at most
+noted-most : {G : Given} {log end : Log} {a b notes content notes-left content-left : List ℕ} (l : List rules.Report) → Holds G log a b notes content
+    → Holds (addsAll G l) end a b notes-left content-left → end .noted ≤ log .noted + length l
+noted-most {G} l h k = omega (arith, h .count, k .count, notes-most G l)
+
+-- the data of an answer are as many as it says, at most
+content-in : (a : Answer) (own : List ℕ) → length (contentIn (reportOf a [] own)) ≤ dataIn a
+content-in variant.More own = omega arith
+content-in (variant.Character b) own = omega arith
+content-in (variant.Reply n) own = omega arith
+content-in (variant.EscapeState x) own = omega arith
+content-in (variant.Event y x a) own = omega arith
+content-in (variant.Address t b3 b2 b1 b0) own = omega arith
+content-in (variant.Block n) own = omega (arith, length-take n own)
+content-in (variant.Loaded b) own = omega arith
+content-in (variant.Ended save) own = omega arith
+content-in (variant.Error n k) own = omega arith
+content-in variant.Restart own = omega arith
+content-in (variant.Refused n) own = omega arith
+
+-- the counts have room for an answer, since each note and each byte of data took a raw byte
+counts : (log : Log) (a : Answer) (own : ℕ) → log .noted < mostCount → dataIn a ≤ own → dataIn a < 256 → log .stored + dataIn a ≤ mostCount → countable log a own ≡ true
+unfolding countable
+counts log a own n o b s = simp (lt-ltb (log .noted) mostCount n, le-leb (dataIn a) own o, lt-ltb (dataIn a) 256 b, le-leb (log .stored) (mostCount - dataIn a) (omega arith))
+
+-- one answer more
+module _ {log end : Log} {a : Answer} {own notes content notes-left content-left : List ℕ} (k : Add-done log a own notes content end notes-left content-left)
+    (own-data : (dataIn a ≤ length own) × (dataIn a < 256)) where
+  adds-one : {G : Given} {n : ℕ} {p q : List ℕ} → n + 1 ≤ mostCount → n + dataIn a ≤ mostCount → Held G log n p q notes content
+      → Holds (adds G (reportOf a [] own)) end p q notes-left content-left
+  adds-one {G} {n} {p} {q} m d h = k .adds-it (counts log a (length own) (omega (arith, h .few)) (own-data .0) (own-data .1) (omega (arith, h .small))) [] G p q (h .holds)
+
+  pub gives-one : {n m : ℕ} → n < m → n + dataIn a ≤ m → m ≤ mostCount → Gives (reportOf a [] own ∷ []) log n notes content end m notes-left content-left
+  unfolding addsAll
+  gives-one {n} {m} less room most = record {
+    adds-them = λ G p q h.
+        let w : Holds (adds G (reportOf a [] own)) end p q notes-left content-left = adds-one (omega arith) (omega arith) h in
+        record {
+          holds = w;
+          few = omega (arith, h .few, noted-most (reportOf a [] own ∷ []) (h .holds) w);
+          small = omega (arith, h .small, h .holds .stored, w .stored, content-more G (reportOf a [] own), content-in a own);
+        };
+  }
+
+-- a byte of load data, and those behind it that join its note
+length-loaded : (l : List ℕ) → length (map rules.loaded l) ≡ length l
+length-loaded [] = refl
+length-loaded (b ∷ l) = ap suc (length-loaded l)
+
+loaded-content : (G : Given) (l : List ℕ) → length (addsAll G (map rules.loaded l) .content) ≡ length (G .content) + length l
+unfolding addsAll
+loaded-content G [] = omega arith
+loaded-content G (b ∷ l) = omega (arith, loaded-content (adds G (rules.loaded b)) l, content-more G (rules.loaded b))
+
+gives-loads : {log end : Log} {i : ℕ} {notes content notes-left content-left : List ℕ} (b : ℕ) (l : List ℕ)
+    → ((G : Given) (n : ℕ) (p q : List ℕ) → n < i → Held G log n p q notes content → Holds (addsAll (adds G (rules.loaded b)) (map rules.loaded l)) end p q notes-left content-left)
+    → (n : ℕ) → n < i → Gives (map rules.loaded (b ∷ l)) log n notes content end (i + length l) notes-left content-left
+unfolding addsAll
+gives-loads b l k n less = record {
+  adds-them = λ G p q h.
+      let w = k G n p q less h in
+      record {
+        holds = w;
+        few = omega (arith, h .few, length-loaded l, noted-most (map rules.loaded (b ∷ l)) (h .holds) w);
+        small = omega (arith, h .small, h .holds .stored, w .stored, loaded-content G (b ∷ l));
+      };
+}
+
+abbrev loadsOf : ℕ → Log → Log → Loads
+loadsOf i one all = record { at = i + (all .run - one .run); log = all }
+
+-- the run of the last note never shrinks
+pub run-grows : {one all : Log} {raw notes content notes-left content-left : List ℕ} → Add-run-done one raw notes content all notes-left content-left → one .run ≤ all .run
+run-grows {one} {all} {raw} k = go (joinable one (length raw)) refl
+  where
+    go : (t : Bool) → joinable one (length raw) ≡ t → one .run ≤ all .run
+    go true e = omega (arith, k .adds-it e .grew)
+    go false e = omega (arith, ap (λ (l : Log). l .run) (k .beyond e .0))
+
+pub loads : (s : List ℕ) (b i : ℕ) {log one all : Log} {own notes content notes-mid content-mid notes-left content-left : List ℕ} → i ≤ length s → length s ≤ mostCount → 1 ≤ length own
+    → Add-done log (variant.Loaded b) own notes content one notes-mid content-mid → Add-run-done one (drop i s) notes-mid content-mid all notes-left content-left
+    → Load-done s b i log notes content (loadsOf i one all) notes-left content-left
+unfolding addsAll
+loads s b i {log} {one} {all} {own} {notes} {content} {notes-mid} {content-mid} {notes-left} {content-left} near most some k j = go (joinable one (length (drop i s))) refl
+  where
+    first : (G : Given) (n : ℕ) (p q : List ℕ) → n < i → Held G log n p q notes content → Holds (adds G (rules.loaded b)) one p q notes-mid content-mid
+    first G n p q less h = adds-one k (some, omega arith) (omega arith) (omega arith) h
+
+    go : (t : Bool) → joinable one (length (drop i s)) ≡ t → Load-done s b i log notes content (loadsOf i one all) notes-left content-left
+    go true e =
+        let d = j .adds-it e in
+        let n = joins one (drop i s) in
+        let within = run-within one (drop i s) refl in
+        let l = take n (drop i s) in
+        let size : length l ≡ n = length-take-le n (drop i s) (within .1) in
+        let place : i + (all .run - one .run) ≡ i + length l = omega (arith, d .grew, size) in
+        record {
+          more = l;
+          is = ap (λ (m : ℕ). take m (drop i s)) (sym size);
+          plain = run-all isData (longestRun - one .run) (drop i s);
+          at = place;
+          gives = rw place (gives-loads b l (λ G n p q less h. d .adds-all (adds G (rules.loaded b)) p q (first G n p q less h)));
+          near = omega (arith, place, size, within .1, length-drop i s);
+        }
+    go false e =
+        let same = j .beyond e in
+        let place : i + (all .run - one .run) ≡ i + 0 = omega (arith, ap (λ (l : Log). l .run) (same .0)) in
+        record {
+          more = [];
+          is = refl;
+          plain = none;
+          at = place;
+          gives = rw (place, same .0, same .1, same .2) (gives-loads b [] first);
+          near = omega (arith, place);
+        }
+
+-- Answers that end the reading inside the actions.
+pub ends-more : {own : List ℕ} → Ends variant.More own
+ends-more = record { same = λ reply. refl; sized = refl }
+
+pub ends-refused : {own : List ℕ} (n : ℕ) → Ends (variant.Refused n) own
+ends-refused n = record { same = λ reply. refl; sized = refl }
+
+-- no action has more bytes of its own than are lent
+own-most : (a : rules.Action) → rules.ownMost a ≤ ownLent
+own-most rules.failing = omega arith
+own-most rules.signal = omega arith
+own-most (rules.place t) = omega arith
+own-most (rules.control n) = choice (λ (m : ℕ). m ≤ 257) (ltb n 0x80) (λ e. omega (arith, ltb-true n 0x80 e)) (λ _. omega arith)
+
+-- An action's own bytes, `held` of them so far.
+pub record Owning (s : List ℕ) (a : Action) (from i : ℕ) (own : List ℕ) (held : ℕ) : Type 0 where
+  pub chain : (v : walk.Owned) → Own s (actionFor a) i (take held own) v → Own s (actionFor a) from [] v
+  pub far : from + held ≤ i
+  pub near : i ≤ length s
+  pub short : held < rules.ownMost (actionFor a)
+  pub size : length own ≡ ownLent
+
+pub own-starts : {s : List ℕ} {a : Action} {from : ℕ} {own : List ℕ} → from ≤ length s → length own ≡ ownLent → 0 < rules.ownMost (actionFor a) → Owning s a from from own 0
+own-starts le e some = record { chain = λ v q. q; far = omega arith; near = le; short = some; size = e }
+
+pub own-below : {s : List ℕ} {a : Action} {from i : ℕ} {own : List ℕ} {held : ℕ} → Owning s a from i own held → held < 257
+own-below {a = a} v = omega (arith, v .short, own-most (actionFor a))
+
+module _ {s : List ℕ} {a : Action} {from i : ℕ} {own : List ℕ} {held : ℕ} (v : Owning s a from i own held) where
+  pub own-ran-out : unitAt s i ≡ walk.gone → Halted-done s a from own variant.More (length s)
+  own-ran-out u = record { says = v .chain _ (laws.own-gone s (actionFor a) i (take held own) (v .near) u); ends = ends-more; far = omega (arith, v .far, v .near); near = omega arith }
+
+  pub own-marked : {m n : ℕ} → unitAt s i ≡ walk.mark m n → Halted-done s a from own (variant.Refused 5) n
+  own-marked u =
+      let k = mark-near s i u in
+      record { says = v .chain _ (laws.own-mark s (actionFor a) i (take held own) (v .near) u); ends = ends-refused 5; far = omega (arith, v .far); near = k .1 }
+
+  turn : (b : ℕ) {t : Turn} → shapeTurn (rules.ownShape (actionFor a)) held b ≡ t → shapeTurn (rules.ownShape (actionFor a)) (length (take held own)) b ≡ t
+  turn b e =
+      let n : length (take held own) ≡ held = length-take-le held own (omega (arith, v .size, own-below v)) in
+      ap (λ (m : ℕ). shapeTurn (rules.ownShape (actionFor a)) m b) n ∙ e
+
+  pub own-is-refused : {b n x : ℕ} → unitAt s i ≡ walk.datum b n → shapeTurn (rules.ownShape (actionFor a)) held b ≡ refused x → Halted-done s a from own (variant.Refused x) n
+  own-is-refused {b} {x = x} u t =
+      let k = data-near s i u in
+      record { says = v .chain _ (laws.own-refused s (actionFor a) i (take held own) (v .near) u (turn b t)); ends = ends-refused x; far = omega (arith, v .far); near = k .1 }
+
+  stored : (b : ℕ) → take (held + 1) (set own held b) ≡ take held own ++ (b ∷ [])
+  stored b = take-next own held b (omega (arith, v .size, own-below v))
+
+  pub own-is-done : {b n : ℕ} → unitAt s i ≡ walk.datum b n → shapeTurn (rules.ownShape (actionFor a)) held b ≡ done → Whole-done s a from (set own held b) held n
+  own-is-done {b} {n} u t =
+      let k = data-near s i u in
+      let same : take held (set own held b) ≡ take held own = take-set-le held own held b (omega arith) in
+      record {
+        last = b;
+        says = rw same (v .chain _ (laws.own-done s (actionFor a) i (take held own) (v .near) u (turn b t)));
+        ends = stored b ∙ ap (λ (l : List ℕ). l ++ (b ∷ [])) (sym same);
+        turn = t;
+        most = v .short;
+        far = omega (arith, v .far);
+        near = k .1;
+      }
+
+  pub own-goes-on : {b n : ℕ} → unitAt s i ≡ walk.datum b n → shapeTurn (rules.ownShape (actionFor a)) held b ≡ more → Owning s a from n (set own held b) (held + 1)
+  own-goes-on {b} {n} u t =
+      let k = data-near s i u in
+      record {
+        chain = λ w x. v .chain w (laws.own-more s (actionFor a) i (take held own) (v .near) u (turn b t) (subst (λ (h : List ℕ). Own s (actionFor a) n h w) (stored b) x));
+        far = omega (arith, v .far);
+        near = k .1;
+        short = own-fits (actionFor a) held b (v .short) t;
+        size = length-set own held b ∙ v .size;
+      }
+
+-- an error or restart, by its number and the length of its text
+module _ (reply : List ℕ) where
+  failure-closes : (own : List ℕ) (n k : ℕ) → outcomeOf (failureFor n k) reply own ≡ closed (reportOf (failureFor n k) [] own)
+  failure-closes own n k = go (eqb n 0) (eqb k 0)
+    where
+      go : (t s : Bool) → let a = cond t (cond s variant.Restart (variant.Error n k)) (variant.Error n k) in outcomeOf a reply own ≡ closed (reportOf a [] own)
+      go true true = refl
+      go true false = refl
+      go false s = refl
+
+failure-sized : (own : List ℕ) (n k : ℕ) → k ≤ length (drop 1 own) → failureFor n k ≡ answerFor (reportOf (failureFor n k) [] own)
+failure-sized own n k h = go (eqb n 0) (eqb k 0)
+  where
+    whole : variant.Error n k ≡ variant.Error n (length (take k (drop 1 own)))
+    whole = rw (length-take-le k (drop 1 own) h)
+
+    go : (t s : Bool) → let a = cond t (cond s variant.Restart (variant.Error n k)) (variant.Error n k) in a ≡ answerFor (reportOf a [] own)
+    go true true = refl
+    go true false = whole
+    go false s = whole
+
+failure-report : (n k : ℕ) (t : List ℕ) → k ≤ length t → reportOf (failureFor n k) [] (n ∷ t) ≡ rules.failure n (take k t)
+failure-report n zero t h = go (eqb n 0)
+  where
+    go : (s : Bool) → reportOf (cond s variant.Restart (variant.Error n 0)) [] (n ∷ t) ≡ cond s rules.restart (rules.error n [])
+    go true = refl
+    go false = refl
+failure-report n (suc k) [] h = absurd (omega arith)
+failure-report n (suc k) (b ∷ t) h = rw (ne-eqb (suc k) 0 (λ e. omega arith)) (go (eqb n 0))
+  where
+    go : (s : Bool) → reportOf (cond s (variant.Error n (suc k)) (variant.Error n (suc k))) [] (n ∷ b ∷ t) ≡ rules.error n (b ∷ take k t)
+    go true = refl
+    go false = refl
+
+failure-of : (own : List ℕ) (n : ℕ) → 1 ≤ n → n ≤ length own → reportOf (failureFor (at own 0) (n - 1)) [] own ≡ rules.failureOf (take n own)
+failure-of [] n low high = absurd (omega arith)
+failure-of (x ∷ own) zero low high = absurd (omega arith)
+failure-of (x ∷ own) (suc n) low high = let e : suc n - 1 ≡ n = omega arith in rw e (failure-report x n own (omega arith))
+
+failure-stops : (h : List ℕ) → passes (rules.failureOf h) ≡ false
+unfolding passes
+failure-stops [] = refl
+failure-stops (n ∷ []) = go (eqb n 0)
+  where
+    go : (t : Bool) → passes (cond t rules.restart (rules.error n [])) ≡ false
+    go true = refl
+    go false = refl
+failure-stops (n ∷ b ∷ t) = refl
+
+-- How an action starts: none opens a fifth transfer.
+may-start : (a : Action) (d : ℕ) → isFifth a d ≡ false → (o : List rules.Transfer) → length o ≡ d → rules.mayStart (actionFor a) o ≡ true
+may-start Error d e o h = refl
+may-start Event d e o h = refl
+may-start (Address Set) d e o h = refl
+may-start (Address Execute) d e o h = refl
+may-start (Address Load) d e o h = let l = leb-false 4 d e in lt-ltb (length o) 4 (omega arith)
+may-start (Address Save) d e o h = let l = leb-false 4 d e in lt-ltb (length o) 4 (omega arith)
+may-start (Block n) d e o h = refl
+
+pub fifth-starts : {s : List ℕ} {i : ℕ} {own : List ℕ} (a : Action) (d : ℕ) → i ≤ length s → isFifth a d ≡ true → Began-halt s d i (rules.starts (actionFor a)) own (variant.Refused 13) i
+fifth-starts Error d le e = let z : _≡_ {A = ℕ} 0 1 = cc in absurd (omega arith)
+fifth-starts Event d le e = let z : _≡_ {A = ℕ} 0 1 = cc in absurd (omega arith)
+fifth-starts (Address Set) d le e = let z : _≡_ {A = ℕ} 0 1 = cc in absurd (omega arith)
+fifth-starts (Address Execute) d le e = let z : _≡_ {A = ℕ} 0 1 = cc in absurd (omega arith)
+fifth-starts {s} {i} (Address Load) d le e = record { says = laws.act-fifth s d i rules.load (leb-true 4 d e); ends = ends-refused 13; far = omega arith; near = le }
+fifth-starts {s} {i} (Address Save) d le e = record { says = laws.act-fifth s d i rules.save (leb-true 4 d e); ends = ends-refused 13; far = omega arith; near = le }
+fifth-starts (Block n) d le e = let z : _≡_ {A = ℕ} 0 1 = cc in absurd (omega arith)
+
+pub halted-starts : {s : List ℕ} {i : ℕ} {own : List ℕ} {answer : Answer} {k : ℕ} (a : Action) (d : ℕ) → isFifth a d ≡ false → Halted-done s a i own answer k
+    → Began-halt s d i (rules.starts (actionFor a)) own answer k
+halted-starts {s} {i} a d e h = record { says = laws.act-halted s d i (may-start a d e) (h .says); ends = h .ends; far = h .far; near = h .near }
+
+-- with all its bytes
+before : (own : List ℕ) (held j : ℕ) → j < held → at (take held own) j ≡ at own j
+before own held j h = getD-take held own j 0 h
+
+block-most : (n held : ℕ) → held < rules.ownMost (rules.control n) → held < 127
+block-most n held = choice (λ (m : ℕ). held < m → held < 127) (ltb n 0x80) (λ e h. omega (arith, ltb-true n 0x80 e)) (λ _ h. absurd (omega arith))
+
+module _ {s : List ℕ} {i : ℕ} {own : List ℕ} {held k : ℕ} (d : ℕ) (size : length own ≡ ownLent) where
+  last-at : {a : Action} (w : Whole-done s a i own held k) → at own held ≡ w .last
+  last-at {a} w =
+      let n : length (take held own) ≡ held = length-take-le held own (omega (arith, size, w .most, own-most (actionFor a))) in
+      sym (getD-take (held + 1) own held 0 (omega arith)) ∙ ap (λ (l : List ℕ). at l held) (w .ends) ∙ getD-at (take held own) (w .last) [] 0 held n
+
+  error-starts : Whole-done s Error i own held k → Began-halt s d i (rules.starts rules.failing) own (failureFor (at own 0) (held - 1)) k
+  error-starts w =
+      let low : 1 ≤ held = text-done held (w .last) (w .turn) in
+      let high : held ≤ length own = omega (arith, size, w .most) in
+      let is : outcomeOf (failureFor (at own 0) (held - 1)) [] own ≡ closed (rules.failureOf (take held own)) =
+      failure-closes [] own (at own 0) (held - 1) ∙ ap closed (failure-of own held low high) in
+      record {
+        says = rw is (laws.act-error s d i (failure-stops (take held own)) (w .says));
+        ends = record {
+          same = λ reply. failure-closes reply own (at own 0) (held - 1) ∙ sym (failure-closes [] own (at own 0) (held - 1));
+          sized = rw (failure-closes [] own (at own 0) (held - 1)) (failure-sized own (at own 0) (held - 1) (simp length-drop (omega arith)));
+        };
+        far = omega (arith, w .far);
+        near = w .near;
+      }
+
+  event-starts : Whole-done s Event i own held k → Began-told s d i (rules.starts rules.signal) own (variant.Event (at own 0) (at own 1) (at own 2)) k
+  unfolding passes
+  event-starts w =
+      let e : held ≡ 2 = omega (arith, fixed-done 3 held (w .last) (w .most) (w .turn)) in
+      let is : rules.finish rules.signal (take held own) (w .last) ≡ rules.acted (rules.event (at own 0) (at own 1) (at own 2)) =
+      rw (before own held 0 (omega arith), before own held 1 (omega arith), ← last-at w, e) in
+      record { says = laws.act-told s d i _ (λ o. (refl, refl)) is refl refl (w .says); own-data = (omega arith, omega arith); far = omega (arith, w .far); near = w .near }
+
+  block-starts : (n : ℕ) → Whole-done s (Block n) i own held k → Began-told s d i (rules.starts (rules.control n)) own (variant.Block (held + 1)) k
+  unfolding passes
+  block-starts n w =
+      let is : rules.finish (rules.control n) (take held own) (w .last) ≡ rules.acted (rules.block (take (held + 1) own)) = rw (w .ends) in
+      let m = block-most n held (w .most) in
+      record { says = laws.act-told s d i _ (λ o. (refl, refl)) is refl refl (w .says); own-data = (omega arith, omega arith); far = omega (arith, w .far); near = w .near }
+
+  -- the four address bytes
+  address-is : (t : Target) (w : Whole-done s (Address t) i own held k)
+      → rules.address (targetFor t) (at (take held own) 0) (at (take held own) 1) (at (take held own) 2) (w .last) ≡ rules.address (targetFor t) (at own 0) (at own 1) (at own 2) (at own 3)
+  address-is t w =
+      let e : held ≡ 3 = omega (arith, fixed-done 4 held (w .last) (w .most) (w .turn)) in
+      rw (before own held 0 (omega arith), before own held 1 (omega arith), before own held 2 (omega arith), ← last-at w, e)
+
+  address-starts : (t : Target) → ((o : List rules.Transfer) → (rules.mayStart (rules.place (targetFor t)) o ≡ true) × (rules.opened (rules.place (targetFor t)) o ≡ o))
+      → Whole-done s (Address t) i own held k → Began-told s d i (rules.starts (rules.place (targetFor t))) own (variant.Address t (at own 0) (at own 1) (at own 2) (at own 3)) k
+  unfolding passes
+  address-starts t keeps w = record { says = laws.act-told s d i _ keeps (ap rules.acted (address-is t w)) refl refl (w .says); own-data = (omega arith, omega arith); far = omega (arith, w .far); near = w .near }
+
+  transfer-starts : (t : Target) (save : Bool) → targetFor t ≡ rules.opening (transferFor save) → d < 4 → Whole-done s (Address t) i own held k
+      → Began-opens s d i (rules.starts (rules.place (targetFor t))) own save (variant.Address t (at own 0) (at own 1) (at own 2) (at own 3)) k
+  transfer-starts t save e l w = record {
+    says = λ g v b.
+        rw (← address-is t w, e)
+        (laws.act-opens s d i (transferFor save) l (subst (λ (x : rules.Target). Own s (rules.place x) i [] (walk.whole (take held own) (w .last) k)) e (w .says)) b);
+    own-data = refl;
+    deep = l;
+    far = omega (arith, w .far);
+    near = w .near;
+  }
+
+  pub whole-starts : (a : Action) → isFifth a d ≡ false → Whole-done s a i own held k → Began-done s d i (rules.starts (actionFor a)) own (finishOf a (toldBy a held own) k)
+  whole-starts Error e w = error-starts w
+  whole-starts Event e w = event-starts w
+  whole-starts (Address Set) e w = address-starts Set (λ o. (refl, refl)) w
+  whole-starts (Address Execute) e w = address-starts Execute (λ o. (refl, refl)) w
+  whole-starts (Address Load) e w = transfer-starts Load false refl (leb-false 4 d e) w
+  whole-starts (Address Save) e w = transfer-starts Save true refl (leb-false 4 d e) w
+  whole-starts (Block n) e w = block-starts n w
+
+-- a mark that starts no action
+module _ (s : List ℕ) (d i : ℕ) (own : List ℕ) (le : i ≤ length s) where
+  pub unknown-begins : Began-halt s d i rules.unknown own (variant.Refused 4) i
+  unknown-begins = record { says = laws.act-unknown s d i; ends = ends-refused 4; far = omega arith; near = le }
+
+  pub state-begins : (x : Bool) → Began-told s d i (rules.state x) own (variant.EscapeState x) i
+  state-begins x = record { says = laws.act-state s d i x; own-data = (omega arith, omega arith); far = omega arith; near = le }
+
+  pub end-begins : d ≡ 0 → Began-halt s d i rules.end own (variant.Refused 5) i
+  end-begins z = record { says = laws.act-end s d i z; ends = ends-refused 5; far = omega arith; near = le }
