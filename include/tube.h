@@ -290,7 +290,8 @@ enum { TUBE_LOAD = 0, TUBE_SAVE = 1 };
 enum { TUBE_TRANSFERS = 4 };
 
 /* The flags of a link are a sum: an escape was seen; the link is stopped; and TUBE_LINK_NESTED times a number for the open transfers, which is 0
- * where none is open, 2n + 1 for a load inside those of number n, 2n + 2 for a save. So test a bit of the flags, not the number. */
+ * where none is open, 2n + 1 for a load inside those of number n, 2n + 2 for a save. So test a bit of the flags, not the number; a transfer is open where
+ * flags / TUBE_LINK_NESTED is not 0, and the innermost is a load where that is odd. */
 enum { TUBE_LINK_ESCAPE = 1, TUBE_LINK_STOPPED = 2, TUBE_LINK_NESTED = 4 };
 
 /* A link. A record with `wait` above 13, with `action` from 7 to 128 or with `flags` above 123, or one that exceeds its limits (as many bytes of
@@ -383,8 +384,8 @@ typedef struct {
  * the length of the block, for TUBE_TOLD_DATA the number of load bytes, 1 to 255, that came with nothing else told between them; the 256th begins the
  * next note, and so does the first of a slice.
  * The room is for a note a raw byte, the data for a byte a raw byte and the open action's own before them: where `room` is shorter than
- * TUBE_NOTE * raw_length, or `data` shorter than raw_length + link.held, the answer is TUBE_BUFFER_SHORT, no byte is used and nothing changes, the
- * link too. */
+ * TUBE_NOTE * raw_length, or `data` shorter than raw_length + link.held, it is refused with TUBE_BUFFER_SHORT, no byte is used and nothing changes, the
+ * link too. raw_length + TUBE_OWN_LENGTH bytes of data always suffice for a link that was given by these functions. */
 TubeRan tube_run(TubeLink link, const uint8_t *raw, size_t raw_length, uint8_t reply[TUBE_REPLY_LENGTH], uint8_t own[TUBE_OWN_LENGTH], uint8_t *room,
                  size_t room_length, uint8_t *data, size_t data_length);
 
@@ -400,11 +401,11 @@ typedef struct {
 
 /* A whole recorded reply: the raw bytes that came behind one call, read as tube_run reads them from a fresh link with the call begun, up to where the
  * call ends, a byte is refused or the recording runs out. Notes and data are those of tube_run over the same bytes. `out` gets the reply's bytes, or
- * the error's number and then its text; on every other outcome it stays as it was. An OSWORD with `out_length` 0 is complete before the first byte: a
- * reply of length 0.
- * Where `room` or `data` is shorter than what it would hold the answer is TUBE_BUFFER_SHORT: nothing is used or touched, and `noted` and `stored` say
- * what is needed, so that a call with two empty buffers measures. TUBE_NOTE bytes of room and one of data for each raw byte always suffice.
- * TUBE_UNKNOWN_CODE with nothing used: a number that is no call. */
+ * the error's number and then its text, length + 1 bytes; on every other outcome it stays as it was. An OSWORD with `out_length` 0 is complete before the
+ * first byte: a reply of length 0.
+ * Where `room` or `data` is shorter than what it would hold it is refused with TUBE_BUFFER_SHORT: nothing is used or touched, and `noted` and `stored`
+ * say what is needed, so that a call with two empty buffers measures (where nothing is needed it reads). TUBE_NOTE bytes of room and one of data for each
+ * raw byte always suffice. A number that is no call is refused with TUBE_UNKNOWN_CODE and nothing used. */
 TubeRecorded tube_read_recorded(uint8_t call, uint8_t out_length, const uint8_t *raw, size_t raw_length, uint8_t *room, size_t room_length,
                                 uint8_t *data, size_t data_length, uint8_t out[TUBE_REPLY_LENGTH]);
 
