@@ -1,2 +1,3 @@
 pub mod Layer
 pub mod Put
+pub mod Units

@@ -3,12 +3,20 @@ ghost use Prim.Native.Nat.{_≤_};
 ghost use mathlib.Core.Path.{_≡_};
 ghost use Rattle.serial_rules.specs.Escape.{pieceOf, escapes};
 ghost use Rattle.escape.specs.Layer.{pieceFor, isEscape};
+ghost use Rattle.escape.specs.Units.{unitAt, unitFor};
 
 // A raw byte, seen through the escape layer: an escape that needs the next byte, a data byte, or a mark.
 pub enum Piece {
     Pending,
     Data(u8),
     Mark(u8),
+}
+
+// One data byte or mark of raw bytes, and the place behind it; or they end before it is whole.
+pub enum Unit {
+    Gone,
+    Data(u8, usize),
+    Mark(u8, usize),
 }
 
 impl Piece {
@@ -30,6 +38,28 @@ impl Piece {
         }
         Piece::Data(raw)
     }
+}
+
+// The data byte or mark at a place, where no escape was seen before it.
+pub fn unit_at(raw: &[u8], i: usize) -> Unit
+    ensures { λ r. ⌜ unitFor r ≡ unitAt (now (raw .entry)) i ⌝ }
+{
+    if i < raw.len() {
+        let first = raw[i];
+        if first == Piece::ESCAPE {
+            let j = i + 1;
+            if j < raw.len() {
+                let second = raw[j];
+                if second == Piece::ESCAPE {
+                    return Unit::Data(second, j + 1);
+                }
+                return Unit::Mark(second, j + 1);
+            }
+            return Unit::Gone;
+        }
+        return Unit::Data(first, i + 1);
+    }
+    Unit::Gone
 }
 
 // How many of the bytes are escape bytes.

@@ -18,7 +18,8 @@ use Rattle.kind.specs.declared.CallKind.{CallKind}
 use Rattle.kind.specs.Kinds.{replyLent}
 use Rattle.shapes.specs.declared.Shape.{Shape as Found}
 use Rattle.link.proofs.Steps.{at-data, data-outside, reply-more, reply-ended}
-use Rattle.link_loop.proofs.Plains.{mid, mid-usable}
+use Rattle.link_loop.specs.Parts.{midReply}
+use Rattle.link_loop.proofs.Plains.{mid-usable}
 use Rattle.flat_kind.specs.Kinds.{kindAt}
 use Rattle.flat_link.specs.declared.FlatLink.{FlatLink}
 use Rattle.flat_link.specs.declared.FlatTold.{FlatTold}
@@ -69,17 +70,17 @@ module _ {f : FlatLink} {x : ℕ} (h : Reply-byte f x) where
   kind = kindAt (f .wait - 1) (f .«out_length»)
 
   -- its link is one in the middle of a reply
-  middle : linkOf f ≡ mid kind (f .got)
+  middle : linkOf f ≡ midReply kind (f .got)
   middle = rw (ne-eqb (f .wait) 0 (λ e. omega (arith, e, h .waits)), h .quiet, h .none-held, h .no-flags)
 
   -- the link with a byte more has the record with a byte more
-  next-is : placedNext f ≡ flatOf f (mid kind (f .got + 1))
+  next-is : placedNext f ≡ flatOf f (midReply kind (f .got + 1))
   next-is = ap placedNext (sym (flat-back f in-range) ∙ ap (flatOf f) middle)
 
   module _ {reply own : List ℕ} {g : FlatLink} {r : FlatTold} (room : f .got < length reply) where
     pub reply-goes : turnIn f x ≡ more → g ≡ placedNext f → r ≡ toldWith g 0 0 0 → Flat-step-done f reply own x r (set reply (f .got) x) own
     reply-goes e p q =
-        let l = mid kind (f .got) in
+        let l = midReply kind (f .got) in
         let t = limited (f .got) (longest (shapeIn f)) (shapeTurn (shapeIn f) (f .got) x) more not-more e in
         step-known in-range (sym middle)
         (at-data l reply own x (mid-usable kind (f .got) (t .0)) (rw (h .not-escape)) (data-outside l reply own x refl (reply-more l reply x refl refl room (t .1) refl)))
@@ -87,7 +88,7 @@ module _ {f : FlatLink} {x : ℕ} (h : Reply-byte f x) where
 
     pub reply-ends : turnIn f x ≡ done → g ≡ placedIdle f → r ≡ toldWith g 5 0 (f .got + 1) → Flat-step-done f reply own x r (set reply (f .got) x) own
     reply-ends e p q =
-        let l = mid kind (f .got) in
+        let l = midReply kind (f .got) in
         let t = limited (f .got) (longest (shapeIn f)) (shapeTurn (shapeIn f) (f .got) x) done not-done e in
         step-known in-range (sym middle)
         (at-data l reply own x (mid-usable kind (f .got) (t .0)) (rw (h .not-escape)) (data-outside l reply own x refl (reply-ended l reply x refl refl room (t .1) refl)))

@@ -1,4 +1,6 @@
+pub mod Chains
 pub mod Data
 pub mod Notes
 pub mod Plains
+pub mod Replies
 pub mod Loads

@@ -24,7 +24,7 @@ use Rattle.notes.specs.Logs.{joins, joinable, Add-run-done}
 use Rattle.link_loop.specs.Run.{Runs, stop, took}
 use Rattle.link_loop.specs.Parts.{quietly, inLoad, Load-pass-done}
 
-quiet-is : (d : Doing) → quietly d ≡ true → d ≡ Quiet
+pub quiet-is : (d : Doing) → quietly d ≡ true → d ≡ Quiet
 quiet-is Quiet e = refl
 quiet-is (Open a) e = let z : _≡_ {A = ℕ} 0 1 = cc in absurd (omega arith)
 

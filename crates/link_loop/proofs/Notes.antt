@@ -1,13 +1,13 @@
 -- The loop: what it has passed over so far, one step more, and what it promises where it ends.
-use Prim.Native.Nat.{ℕ, zero, suc, _+_, _-_, _*_, _/_, _≤_, _<_}
+use Prim.Native.Nat.{ℕ, _+_, _-_, _*_, _/_, _≤_, _<_}
 use mathlib.Core.Path.{_≡_, refl, sym, ap, subst, _∙_}
 use mathlib.Core.Bool.{Bool, true, false, not, _||_}
-use mathlib.Core.List.{List, [], _∷_, _++_, map, append-nil}
+use mathlib.Core.List.{List, [], _∷_, _++_, map, append-nil, append-assoc}
 use native.Mathlib.Omega.{arith}
 use native.Mathlib.Numerals.{add-one}
 use lib.Dec.{ltb}
 use lib.ListN.{length, getD, take, drop, replicate, length-take, length-drop}
-use lib.Seq.{length-take-le, take-suc, take-all, take-add}
+use lib.Seq.{length-take-le, take-suc, take-add}
 use borrow.Author.Tests.{not-true, not-false, ltb-true, ltb-false, lt-ltb, le-ltb, le-leb}
 use Rattle.escape.specs.Put.{over}
 use Rattle.serial_rules.specs.Link as rules
@@ -16,16 +16,18 @@ use Rattle.link.specs.declared.Link.{Link}
 use Rattle.link.specs.declared.Answer.{Answer}
 use Rattle.link.specs.declared.Answer.the-variants as variant
 use Rattle.link.specs.declared.Stepped.{Stepped}
+use Rattle.link.specs.View as link-view
 use Rattle.link.specs.View.{ownLent, viewOf, reportOf, answerFor, Step-done}
 use Rattle.notes.specs.declared.Log.{Log}
-use Rattle.notes.specs.Notes.{nothing, addsAll, notesOf, dataOf}
+use Rattle.notes.specs.Notes.{Given, nothing, addsAll, notesOf, dataOf}
 use Rattle.notes.specs.Logs.{fresh, Holds, dataIn, mostCount, countable, Add-done}
 use Rattle.notes.proofs.Laws.{holds-nothing}
 use Rattle.notes.proofs.Counts.{contentIn, data-counted, adds-append, adds-snoc, adds-quiet, notes-most}
 use Rattle.link_loop.specs.declared.Ran.{Ran}
-use Rattle.link_loop.specs.declared.Over.{Over}
-use Rattle.link_loop.specs.Run.{Runs, stop, took, Passed, none, next, lastOf, lacksRoom, Ran-done, Run-done}
-use Rattle.link_loop.specs.Parts.{endedFrom, endsOf, passedFrom, Pass-done, Load-pass-done, Over-done}
+use Rattle.link_loop.specs.declared.Taken.{Taken}
+use Rattle.link_loop.specs.Run.{Runs, stop, Passed, none, next, lastOf, lacksRoom, Ran-done, Run-done}
+use Rattle.link_loop.specs.Parts.{endedFrom, endsOf, gotFrom, Take-done, Load-pass-done}
+use Rattle.link_loop.proofs.Chains.{runs-more, runs-join, passed-more, passed-waits, passed-loads, tail-all}
 use Rattle.link_loop.proofs.Data.{step-data, view-held, data-short, runs-data, runs-length}
 
 -- whether a report is passed over does not ask for the lent bytes
@@ -63,45 +65,12 @@ last-is (variant.Error n k) reply own h = refl
 last-is variant.Restart reply own h = refl
 last-is (variant.Refused n) reply own h = refl
 
-passed-more : {l : List rules.Report} → Passed l → (r : rules.Report) → passes r ≡ true → Passed (l ++ (r ∷ []))
-passed-more none r h = next h none
-passed-more (next e p) r h = next e (passed-more p r h)
-
-runs-more : {l q : Link} {reply own reply-mid own-mid reply-end own-end raw : List ℕ} {x : ℕ} {o : Stepped} {reports : List rules.Report}
-    → Runs l reply own raw reports q reply-mid own-mid → Step-done q reply-mid own-mid x o reply-end own-end
-    → Runs l reply own (raw ++ (x ∷ [])) (reports ++ (reportOf (o .answer) reply-end own-end ∷ [])) (o .link) reply-end own-end
-runs-more stop d = took d stop
-runs-more (took e r) d = took e (runs-more r d)
-
 -- over the raw bytes so far the loop passed over `reports`, whose notes and data stand in the lent bytes
 pub record Passing (link : Link) (reply own raw room content : List ℕ) (now : Link) (reply-now own-now room-now content-now : List ℕ) (log : Log) : Type 0 where
   pub reports : List rules.Report
   pub passed : Passed reports
   pub steps : Runs link reply own raw reports now reply-now own-now
   pub held : Holds (addsAll nothing reports) log room content room-now content-now
-
--- bytes passed over at once: a chain behind a chain, without a note
-runs-join : {l q p : Link} {reply own reply-mid own-mid reply-end own-end raw more : List ℕ} {reports others : List rules.Report}
-    → Runs l reply own raw reports q reply-mid own-mid → Runs q reply-mid own-mid more others p reply-end own-end
-    → Runs l reply own (raw ++ more) (reports ++ others) p reply-end own-end
-runs-join stop r = r
-runs-join (took e s) r = took e (runs-join s r)
-
-passed-waits : {l : List rules.Report} → Passed l → (n : ℕ) → Passed (l ++ replicate n rules.needMore)
-unfolding passes
-passed-waits (next e p) n = next e (passed-waits p n)
-passed-waits none zero = none
-passed-waits none (suc n) = next refl (passed-waits none n)
-
-passed-join : {l m : List rules.Report} → Passed l → Passed m → Passed (l ++ m)
-passed-join none q = q
-passed-join (next e p) q = next e (passed-join p q)
-
-passed-loads : {l : List rules.Report} → Passed l → (w : List ℕ) → Passed (l ++ map rules.loaded w)
-unfolding passes
-passed-loads (next e p) w = next e (passed-loads p w)
-passed-loads none [] = none
-passed-loads none (b ∷ w) = next refl (passed-loads none w)
 
 -- how much was noted: at most a note for each raw byte
 module _ {l q : Link} {reply own raw room content reply-now own-now room-now content-now : List ℕ} {log : Log}
@@ -115,45 +84,40 @@ module _ {l q : Link} {reply own raw room content reply-now own-now room-now con
   pub content-length : length content-now ≡ length content
   content-length = p .held .laid-content .size
 
--- raw bytes passed over at once, those of the reply and then those of a load: a chain of steps, and what is noted of them
-tail-all : (raw : List ℕ) (j : ℕ) → take (length raw - j) (drop j raw) ≡ drop j raw
-tail-all raw j = take-all (length raw - j) (drop j raw) (simp length-drop (omega arith))
-
-pub goes-over : {l at : Link} {log more : Log} {raw reply room content left room-left content-left : List ℕ} {n : ℕ} → Pass-done l reply raw n left → at ≡ passedFrom l n
-    → Load-pass-done at log (take (length raw - n) (drop n raw)) room content more room-left content-left
-    → Over-done l log raw reply room content (record { link = at; log = more; used = n + (more .run - log .run) }) left room-left content-left
-unfolding addsAll
-goes-over {l} {at} {log} {more} {raw} {reply} {room} {content} {left} {room-left} {content-left} {n} d e k =
-    let m = more .run - log .run in
-    let f : Load-pass-done at log (drop n raw) room content more room-left content-left =
-    subst (λ (s : List ℕ). Load-pass-done at log s room content more room-left content-left) (tail-all raw n) k in
-    let w = take m (drop n raw) in
-    record {
-      reports = replicate n rules.needMore ++ map rules.loaded w;
-      passed = passed-loads (passed-waits none n) w;
-      within = omega (arith, d .within, f .within, f .grows, length-drop n raw);
-      steps = λ own. rw (take-add n m raw) (runs-join (subst (λ (q : Link). Runs l reply own (take n raw) (replicate n rules.needMore) q left own) (sym e) (d .steps own)) (f .steps left own));
-      adds-them = λ g room₀ content₀ h.
-          rw (adds-append g (replicate n rules.needMore) (map rules.loaded w), adds-quiet g [] n) (f .adds-them g room₀ content₀ h);
-    }
-
+-- Raw bytes taken at once, of a reply or of a load: a chain of steps, and what is noted of them.
 module _ {l q : Link} {reply own room content reply-now own-now room-now content-now : List ℕ} {log : Log} (raw : List ℕ) (j : ℕ)
     (p : Passing l reply own (take j raw) room content q reply-now own-now room-now content-now log) where
-  pub passed-over : {r : Over} {left room-left content-left : List ℕ} → Over-done q log (take (length raw - j) (drop j raw)) reply-now room-now content-now r left room-left content-left
-      → Passing l reply own (take (j + r .used) raw) room content (r .link) left own-now room-left content-left (r .log)
-  passed-over {r} {left} {room-left} {content-left} d =
-      let e : Over-done q log (drop j raw) reply-now room-now content-now r left room-left content-left =
-      subst (λ (s : List ℕ). Over-done q log s reply-now room-now content-now r left room-left content-left) (tail-all raw j) d in
+  pub taken-part : {r : Taken} {next : Link} {left : List ℕ} → Take-done q reply-now (take (length raw - j) (drop j raw)) r left → r .whole ≡ false → next ≡ gotFrom q (r .got)
+      → Passing l reply own (take (j + r .used) raw) room content next left own-now room-now content-now log
+  taken-part {r} {next} {left} d off is =
+      let e = subst (λ (s : List ℕ). Take-done q reply-now s r left) (tail-all raw j) d in
       record {
-        reports = p .reports ++ e .reports;
-        passed = passed-join (p .passed) (e .passed);
-        steps = rw (take-add j (r .used) raw) (runs-join (p .steps) (e .steps own-now));
-        held = rw (adds-append nothing (p .reports) (e .reports)) (e .adds-them (addsAll nothing (p .reports)) room content (p .held));
+        reports = p .reports ++ replicate (r .used) rules.needMore;
+        passed = passed-waits (p .passed) (r .used);
+        steps = rw (take-add j (r .used) raw, is) (runs-join (p .steps) (e .part off own-now));
+        held = rw (adds-quiet nothing (p .reports) (r .used)) (p .held);
       }
 
-pub over-within : {q : Link} {log : Log} {reply room content left room-left content-left : List ℕ} {r : Over} (raw : List ℕ) (j : ℕ) → j ≤ length raw
-    → Over-done q log (take (length raw - j) (drop j raw)) reply room content r left room-left content-left → j + r .used ≤ length raw
-over-within raw j h d = let w = simp (length-take, length-drop) at (d .within) in omega arith
+  pub loads-over : {more : Log} {room-left content-left : List ℕ} → Load-pass-done q log (take (length raw - j) (drop j raw)) room-now content-now more room-left content-left
+      → Passing l reply own (take (j + (more .run - log .run)) raw) room content q reply-now own-now room-left content-left more
+  loads-over {more} {room-left} {content-left} d =
+      let n = more .run - log .run in
+      let e = subst (λ (s : List ℕ). Load-pass-done q log s room-now content-now more room-left content-left) (tail-all raw j) d in
+      let w = map rules.loaded (take n (drop j raw)) in
+      record {
+        reports = p .reports ++ w;
+        passed = passed-loads (p .passed) (take n (drop j raw));
+        steps = rw (take-add j n raw) (runs-join (p .steps) (e .steps reply-now own-now));
+        held = rw (adds-append nothing (p .reports) w) (e .adds-them (addsAll nothing (p .reports)) room content (p .held));
+      }
+
+pub taken-within : {q : Link} {reply left : List ℕ} {r : Taken} (raw : List ℕ) (j : ℕ) → j ≤ length raw → Take-done q reply (take (length raw - j) (drop j raw)) r left
+    → j + r .used ≤ length raw
+taken-within raw j h d = let w = simp (length-take, length-drop) at (d .within) in omega arith
+
+pub loads-within : {q : Link} {log more : Log} {room content room-left content-left : List ℕ} (raw : List ℕ) (j : ℕ) → j ≤ length raw
+    → Load-pass-done q log (take (length raw - j) (drop j raw)) room content more room-left content-left → j + (more .run - log .run) ≤ length raw
+loads-within raw j h d = let w = simp (length-take, length-drop) at (d .within) in omega (arith, d .grows)
 
 pub begins : (l : Link) (reply own room content : List ℕ) → Passing l reply own [] room content l reply own room content fresh
 unfolding addsAll
@@ -218,6 +182,28 @@ module _ {l q : Link} {reply own room content reply-now own-now room-now content
     stored = p .held .stored;
     contents = laid .1;
   }))
+
+  -- a reply was taken to its end
+  pub whole-reply : {t : Taken} {r : Ran} {left : List ℕ} → Take-done q reply-now (take (length raw - i) (drop i raw)) t left → t .whole ≡ true
+      → r ≡ endedFrom link-view.fresh (variant.Reply (t .got)) (i + t .used) log → Run-done l reply own raw room content r left own-now room-now content-now
+  unfolding passes
+  whole-reply {t} {r} {left} d on is =
+      let e = subst (λ (s : List ℕ). Take-done q reply-now s t left) (tail-all raw i) d in
+      let w = e .all on in
+      let quiet = adds-quiet nothing (p .reports) (w .before) in
+      enough (rw is (record {
+        reports = p .reports ++ replicate (w .before) rules.needMore;
+        passed = passed-waits (p .passed) (w .before);
+        steps = rw (take-add i (t .used) raw, append-assoc) (runs-join (p .steps) (w .steps own-now));
+        sized = ap variant.Reply (sym (length-take-le (t .got) left (w .filled)));
+        within = taken-within raw i low d;
+        ended = λ f. let z : _≡_ {A = ℕ} 0 1 = cc in absurd (omega arith);
+        stopped = λ _. refl;
+        noted = rw quiet (p .held .count);
+        bytes = rw quiet (laid .0);
+        stored = p .held .stored ∙ ap (λ (g : Given). length (g .content)) (sym quiet);
+        contents = laid .1 ∙ ap (λ (g : Given). over (g .content) content) (sym quiet);
+      }))
 
   module _ {o : Stepped} {reply-left own-left : List ℕ} (h : i < length raw) (d : Step-done q reply-now own-now (getD raw i 0) o reply-left own-left) where
     -- the counts have room for one answer more

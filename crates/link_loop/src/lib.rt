@@ -1,20 +1,20 @@
 // The loop over raw bytes: it passes over what is not a reply, and loses nothing that was reported.
+use escape::Unit;
 use kind::CallKind;
 use link::Answer;
 use link::Doing;
 use link::Link;
 use link::Wait;
 use notes::Log;
-ghost use Prim.Native.Nat.{_+_, _≤_, _<_};
+use turns::Turn;
+ghost use Prim.Native.Nat.{_<_};
 ghost use mathlib.Core.Path.{_≡_};
 ghost use mathlib.Core.Bool.{true, false};
 ghost use lib.ListN.{length};
-ghost use Rattle.link.specs.declared.Wait.the-variants.{Waiting};
-ghost use Rattle.link.specs.declared.Doing.the-variants.{Quiet};
 ghost use Rattle.kind.specs.Kinds.{replyLent};
 ghost use Rattle.link.specs.View.{usableOf};
 ghost use Rattle.link_loop.specs.Run.{lacksRoom, Run-done};
-ghost use Rattle.link_loop.specs.Parts.{endedFrom, endsOf, passedFrom, Pass-done, inLoad, Load-pass-done, Over-done};
+ghost use Rattle.link_loop.specs.Parts.{endedFrom, endsOf, takenAs, gotFrom, inReply, midReply, Take-done, inLoad, Load-pass-done};
 
 // Where the loop ended: a finished reply, an error or restart, a refusal, or need-more at the end of its raw bytes; how many of them it used;
 // how many notes and how many bytes of data it wrote; the link.
@@ -26,11 +26,11 @@ pub struct Ran {
     pub link: Link,
 }
 
-// Raw bytes passed over at once.
-struct Over {
-    link: Link,
-    log: Log,
+// Bytes of a reply that were taken at once: how many raw bytes they are, how many bytes of the reply came so far, and whether it is whole.
+struct Taken {
     used: usize,
+    got: usize,
+    whole: bool,
 }
 
 // Raw bytes, until a reply is finished, an error or restart comes, a byte is refused, or they end. What it passes over leaves notes in the lent room,
@@ -52,25 +52,27 @@ pub fn run(
     let mut at = link;
     let mut i: usize = 0;
     let mut log = Log::new();
-    while i < raw.len() {
-        let s = at.step(raw[i], reply, own);
+    loop {
+        let taken = take_reply(at, &raw[i..], reply);
+        i += taken.used;
+        if taken.whole {
+            return ended(Link::new(), Answer::Reply(taken.got), i, log);
+        }
+        let next = with_got(at, taken.got);
+        if raw.len() <= i {
+            return ended(next, Answer::More, i, log);
+        }
+        let s = next.step(raw[i], reply, own);
         let answer = s.answer;
         at = s.link;
         i += 1;
-        let Answer::Reply(length) = answer else {
-            if ends(answer) {
-                return ended(at, answer, i, log);
-            }
-            let noted = log.add(answer, own, room, content);
-            let over = pass_over(at, noted, &raw[i..], reply, room, content);
-            at = over.link;
-            log = over.log;
-            i += over.used;
-            continue;
-        };
-        return ended(at, Answer::Reply(length), i, log);
+        if ends(answer) {
+            return ended(at, answer, i, log);
+        }
+        let noted = log.add(answer, own, room, content);
+        log = pass_load(at, noted, &raw[i..], room, content);
+        i += log.run - noted.run;
     }
-    ended(at, Answer::More, i, log)
 }
 
 // Whether so much room and content are too little for so many raw bytes, where an action has bytes of its own already.
@@ -87,72 +89,116 @@ pub fn lacks_room(held: u16, bytes: usize, room: usize, content: usize) -> bool
     content - before < bytes
 }
 
-// Raw bytes that need no look at each of them, in the middle of a reply or of a load: how many there are, and the link and the notes behind them.
-fn pass_over(
-    link: Link,
-    log: Log,
-    raw: &[u8],
-    reply: &mut [u8],
-    room: &mut [u8],
-    content: &mut [u8],
-) -> Over
-    requires { ⌜ (usableOf link ≡ true) × (length (now reply) ≡ replyLent) ⌝ }
-    ensures { λ r. ⌜ Over-done link log (now (raw .entry)) (now (reply .entry)) (now (room .entry)) (now (content .entry)) r (now (reply .exit)) (now (room .exit)) (now (content .exit)) ⌝ }
+// The bytes of the reply that waits, where no escape was seen and nothing is open, up to a mark, a refused byte or the end of the raw bytes: most
+// replies end here, without a look at the link for each byte.
+fn take_reply(link: Link, raw: &[u8], reply: &mut [u8]) -> Taken
+    requires { ⌜ length (now reply) ≡ replyLent ⌝ }
+    ensures { λ r. ⌜ Take-done link (now (reply .entry)) (now (raw .entry)) r (now (reply .exit)) ⌝ }
 {
-    let n = pass(link, raw, reply);
-    let at = passed(link, n);
-    let grown = pass_load(at, log, &raw[n..], room, content);
-    let loaded = grown.run - log.run;
-    Over {
-        link: at,
-        log: grown,
-        used: n + loaded,
-    }
-}
-
-// Plain raw bytes in the middle of the reply that waits, outside every transfer: each would need more, and they are stored at once. Returns how many.
-fn pass(link: Link, raw: &[u8], reply: &mut [u8]) -> usize
-    requires { ⌜ (usableOf link ≡ true) × (length (now reply) ≡ replyLent) ⌝ }
-    ensures { λ r. ⌜ Pass-done link (now (reply .entry)) (now (raw .entry)) r (now (reply .exit)) ⌝ }
-{
-    if link.escape {
-        return 0;
-    }
-    if link.nested != 0 {
-        return 0;
-    }
-    let doing = link.doing;
-    match doing {
-        Doing::Open(_) => 0,
-        Doing::Quiet => {
-            let wait = link.wait;
-            match wait {
-                Wait::Idle => 0,
-                Wait::Waiting(kind) => pass_reply(link, kind, raw, reply),
+    if in_reply(link) {
+        let wait = link.wait;
+        match wait {
+            Wait::Idle => {}
+            Wait::Waiting(kind) => {
+                return take_bytes(kind, link.got, raw, reply);
             }
         }
     }
+    part_taken(0, link.got as usize)
 }
 
-fn pass_reply(link: Link, kind: CallKind, raw: &[u8], reply: &mut [u8]) -> usize
-    requires { ⌜ (usableOf link ≡ true) × (link .escape ≡ false) × (link .nested ≡ 0) × (link .doing ≡ Quiet) × (link .wait ≡ Waiting kind) × (length (now reply) ≡ replyLent) ⌝ }
-    ensures { λ r. ⌜ Pass-done link (now (reply .entry)) (now (raw .entry)) r (now (reply .exit)) ⌝ }
+// Whether the next raw byte, if it is not an escape, is of the reply that waits, where one does.
+fn in_reply(link: Link) -> bool
+    ensures { λ r. ⌜ r ≡ inReply link ⌝ }
 {
-    let got = link.got as usize;
-    let end = got + kind.shape().ahead(got);
-    turns::copy_plain(raw, &mut reply[got..end])
+    if link.stopped {
+        return false;
+    }
+    if link.escape {
+        return false;
+    }
+    if link.nested != 0 {
+        return false;
+    }
+    if link.held != 0 {
+        return false;
+    }
+    let doing = link.doing;
+    match doing {
+        Doing::Quiet => true,
+        Doing::Open(_) => false,
+    }
 }
 
-// The link after that many bytes of the reply.
-fn passed(link: Link, n: usize) -> Link
-    requires { ⌜ (0 < n → link .got + n ≤ replyLent) ⌝ }
-    ensures { λ r. ⌜ r ≡ passedFrom link n ⌝ }
+// The bytes of a reply behind the first ones: runs of plain ones are stored at once.
+fn take_bytes(kind: CallKind, from: u16, raw: &[u8], reply: &mut [u8]) -> Taken
+    requires { ⌜ length (now reply) ≡ replyLent ⌝ }
+    ensures { λ r. ⌜ Take-done (midReply kind «from») (now (reply .entry)) (now (raw .entry)) r (now (reply .exit)) ⌝ }
+{
+    let shape = kind.shape();
+    let longest = shape.longest();
+    let mut i: usize = 0;
+    let mut got = from as usize;
+    while got < longest {
+        let end = got + shape.ahead(got);
+        let n = turns::copy_plain(&raw[i..], &mut reply[got..end]);
+        i += n;
+        got += n;
+        let unit = escape::unit_at(raw, i);
+        match unit {
+            Unit::Gone => {
+                return part_taken(i, got);
+            }
+            Unit::Mark(_, _) => {
+                return part_taken(i, got);
+            }
+            Unit::Data(b, next) => {
+                let turn = shape.turn(got, b);
+                match turn {
+                    Turn::Refused(_) => {
+                        return part_taken(i, got);
+                    }
+                    Turn::Done => {
+                        reply[got] = b;
+                        return Taken {
+                            used: next,
+                            got: got + 1,
+                            whole: true,
+                        };
+                    }
+                    Turn::More => {
+                        reply[got] = b;
+                        got += 1;
+                        i = next;
+                    }
+                }
+            }
+        }
+    }
+    part_taken(i, got)
+}
+
+// A reply that is not whole.
+fn part_taken(used: usize, got: usize) -> Taken
+    ensures { λ r. ⌜ r ≡ takenAs used got false ⌝ }
+{
+    Taken {
+        used: used,
+        got: got,
+        whole: false,
+    }
+}
+
+// The link with so many bytes of the reply.
+fn with_got(link: Link, got: usize) -> Link
+    requires { ⌜ got < 65536 ⌝ }
+    ensures { λ r. ⌜ r ≡ gotFrom link got ⌝ }
 {
     let wait = link.wait;
     let doing = link.doing;
     Link {
         wait: wait,
-        got: link.got + n as u16,
+        got: got as u16,
         escape: link.escape,
         doing: doing,
         held: link.held,

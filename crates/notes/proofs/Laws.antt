@@ -305,10 +305,6 @@ module _ {log r : Log} {a : Answer} {own notes content notes-left content-left :
 pub add-beyond : {log : Log} {a : Answer} {own notes content : List ℕ} → countable log a (length own) ≡ false → Add-done log a own notes content log notes content
 add-beyond off = record { adds-it = λ on. absurd (not-both on off); beyond = λ _. (refl, refl, refl) }
 
-pub add-silent : {log : Log} {a : Answer} {own notes content : List ℕ} → a ≡ variant.More → Add-done log a own notes content log notes content
-unfolding adds
-add-silent {own = own} e = record { adds-it = λ _. none-added own variant.More e (λ reply g. refl); beyond = λ _. (refl, refl, refl) }
-
 pub run-counted : {log r : Log} {raw notes content notes-left content-left : List ℕ} → joinable log (length raw) ≡ true → Joined-done log raw notes content r notes-left content-left
     → Add-run-done log raw notes content r notes-left content-left
 run-counted on d = record { adds-it = λ _. d; beyond = λ off. absurd (not-both on off) }

@@ -9,7 +9,6 @@ ghost use mathlib.Core.List.{[], _∷_};
 ghost use lib.ListN.{length, take};
 ghost use Rattle.actions.specs.Actions.{targetFor};
 ghost use Rattle.escape.specs.Put.{Put};
-ghost use Rattle.link.specs.declared.Answer.the-variants.{More};
 ghost use Rattle.notes.specs.Notes.{longestRun, addressKind};
 ghost use Rattle.notes.specs.Logs.{fresh, dataIn, countable, goesOn, joinable, mostCount, Wrote, notedIn, grownBy, Added, Add-done, Block-done, Loaded-done, Joined-done, Add-run-done};
 
@@ -45,9 +44,6 @@ impl Log {
     pub fn add(self, answer: Answer, own: &[u8], notes: &mut [u8], content: &mut [u8]) -> Log
         ensures { λ r. ⌜ Add-done self answer (now (own .entry)) (now (notes .entry)) (now (content .entry)) r (now (notes .exit)) (now (content .exit)) ⌝ }
     {
-        if is_silent(answer) {
-            return self;
-        }
         if self.counts(answer, own.len()) {
             return self.added(answer, own, notes, content);
         }
@@ -198,35 +194,6 @@ impl Log {
             stored: self.stored + n,
             run: run,
         }
-    }
-}
-
-// Whether an answer is need-more, the one that most bytes have: nothing is noted of it.
-fn is_silent(answer: Answer) -> bool
-    ensures { λ r. ⌜ (r ≡ true → answer ≡ More) ⌝ }
-{
-    match answer {
-        Answer::More => true,
-        Answer::Character(_) => false,
-        Answer::Reply(_) => false,
-        Answer::EscapeState(_) => false,
-        Answer::Event { y: _, x: _, a: _ } => false,
-        Answer::Address {
-            target: _,
-            b3: _,
-            b2: _,
-            b1: _,
-            b0: _,
-        } => false,
-        Answer::Block(_) => false,
-        Answer::Loaded(_) => false,
-        Answer::Ended { save: _ } => false,
-        Answer::Error {
-            number: _,
-            length: _,
-        } => false,
-        Answer::Restart => false,
-        Answer::Refused(_) => false,
     }
 }
 

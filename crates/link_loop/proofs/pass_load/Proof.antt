@@ -18,7 +18,12 @@ same-length-2 : tie.Need-same-length-2
 same-length-2 c = search needs
 
 returns : tie.Need-returns
-returns c = load-joined (c .before .before .before .before .before .before .before .before .before .before .before .before .args .link) (c .before .before .before .before .before .before .before .before .before .before .before .before .pre) (sym (c .before .before .before .before .before .before .before .before .in-load .ensures) ∙ c .before .before .before .before .before .before .before .if1 .taken) (c .before .before .before .before .add-run .ensures)
+returns c =
+    let s1 = c .before .before .before .before in
+    let s2 = s1 .before .before .before in
+    let s3 = s2 .before in
+    let s4 = s3 .before .before .before .before in
+    load-joined (s4 .args .link) (s4 .pre) (sym (s3 .in-load .ensures) ∙ s2 .if1 .taken) (s1 .add-run .ensures)
 
 returns-2 : tie.Need-returns-2
 returns-2 c = load-none (c .before .before .before .before .before .args .link)
