@@ -1,4 +1,2 @@
 pub mod Walk
-pub mod Parts
-pub mod Cycle
 pub mod Whole

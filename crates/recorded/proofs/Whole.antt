@@ -1,5 +1,5 @@
 -- The whole recorded reply: the laws of its bytes, of a turn of the reader, and of the two runs.
-use Prim.Native.Nat.{ℕ, suc, _+_, _-_, _*_, _/_, _≤_, _<_}
+use Prim.Native.Nat.{ℕ, suc, _+_, _-_, _*_, _/_, _≤_, _<_, min}
 use native.Mathlib.Nat.{le-of-lt}
 use native.Mathlib.Omega.{arith}
 use mathlib.Core.Path.{_≡_, refl, sym, ap, subst, _∙_}
@@ -9,6 +9,9 @@ use lib.Dec.{eqb, leb, ltb}
 use lib.ListN.{length, take, drop, getD, set, length-append, length-take, length-drop, length-set}
 use lib.Seq.{length-take-le, take-all, take-length, drop-length, take-at, sets, sets-eq, length-sets}
 use borrow.Author.Tests.{lt-leb, le-leb, leb-true, ltb-true, ltb-false, eqb-false, ne-eqb}
+use Rattle.escape.specs.Units as units
+use Rattle.escape.specs.Units.{unitAt}
+use Rattle.escape.proofs.Units.{data-near, mark-near}
 use Rattle.escape.specs.Put.{over, Put}
 use Rattle.escape.proofs.Laws.{put-none, put-next, put-length}
 use Rattle.serial_rules.specs.Body.{Turn, more, done, refused}
@@ -33,30 +36,38 @@ use Rattle.link.specs.declared.Link.{Link}
 use Rattle.link.specs.declared.Begun.{Begun}
 use Rattle.link.specs.declared.Started.{Started}
 use Rattle.link.specs.View as link
-use Rattle.link.specs.View.{ownLent, usableOf, viewOf, begunOf, Begin-done}
+use Rattle.link.specs.View.{usableOf, viewOf, begunOf, Begin-done}
 use Rattle.notes.specs.declared.Log.{Log}
 use Rattle.notes.specs.Notes.{nothing, addsAll, notesOf, dataOf}
 use Rattle.notes.specs.Logs.{fresh, Holds}
 use Rattle.notes.proofs.Laws.{holds-nothing}
-use Rattle.recorded.specs.declared.End as code-end
-use Rattle.recorded.specs.declared.End.the-variants.{On, Halt}
-use Rattle.recorded.specs.declared.Walked.{Walked}
+use Rattle.action_bytes.specs.Walk.{on, halt, Act}
+use Rattle.action_bytes.specs.Parts.{outcomeOf, answerOf, Ends}
+use Rattle.action_bytes.proofs.Walk.{give-give}
+use Rattle.transfers.specs.declared.End as code-end
+use Rattle.transfers.specs.declared.End.the-variants.{On, Halt}
+use Rattle.transfers.specs.declared.Walked.{Walked}
+use Rattle.transfers.specs.Parts.{wentOf, Ended-well, Gives, Act-done}
+use Rattle.transfers.proofs.Parts.{gives-none, gives-then, gives-later}
+use Rattle.transfers.proofs.Cycle.{at-mark}
 use Rattle.recorded.specs.declared.Ended.{Ended}
-use Rattle.recorded.specs.Promise.{answerOf, bytesOf, hasRoom, Read, Read-done}
-use Rattle.recorded.specs.Walk as walk
-use Rattle.recorded.specs.Walk.{unitAt, on, halt, Act, Whole}
-use Rattle.recorded.specs.Parts.{outcomeOf, wentOf, endedAt, Ends, Ended-well, Gives, Act-done, All-done, Pass-done, nothingRead, isShort}
+use Rattle.recorded.specs.Promise.{bytesOf, hasRoom, Read, Read-done}
+use Rattle.recorded.specs.Parts.{Whole, endedAt, All-done, Pass-done, nothingRead, isShort}
 use Rattle.recorded.proofs.Walk as laws
-use Rattle.recorded.proofs.Walk.{data-near, mark-near}
-use Rattle.recorded.proofs.Parts.{gives-none, gives-then, gives-later}
 
 -- plain bytes before the last place of the reply
-pub passes-plain : {raw reply left : List ℕ} {r : ℕ} (got last : ℕ) → got ≤ last → last ≤ length reply → Plain-done raw (take (last - got) (drop got reply)) r left
+pub passes-plain : {raw reply left : List ℕ} {r : ℕ} (got last : ℕ) → got ≤ last → last ≤ length reply
+    → Plain-done raw (take (last - got) (drop got reply)) r left
     → Pass-done got last raw reply r (take got reply ++ (left ++ drop (last - got) (drop got reply)))
 passes-plain {raw} {reply} got last le fits d =
     let part : length (take (last - got) (drop got reply)) ≡ last - got = length-take-le (last - got) (drop got reply) (simp length-drop (omega arith)) in
     let most = done-most d in
     record { before = omega arith; within = most .1; plain = done-plains d; bytes = part-sets reply got (last - got) (omega arith) d }
+
+-- the place behind them, where the raw bytes of a recording from the place n on were looked at
+pub pass-near : (s : List ℕ) (n : ℕ) {got last m : ℕ} {reply left : List ℕ} → n ≤ length s
+    → Pass-done got last (take (length s - n) (drop n s)) reply m left → n + m ≤ length s
+pass-near s n le p = omega (arith, p .within, length-take (length s - n) (drop n s), length-drop n s)
 
 abbrev Not-text : Shape → Type 0
 Not-text (fixed m) = Unit
@@ -113,7 +124,8 @@ module _ {bytes : List ℕ} {n : ℕ} {out now : List ℕ} {i : ℕ} (p : Puttin
       p .put .bytes ∙ ap (λ (l : List ℕ). over l out) e
 
 -- an error's number and text
-pub error-put : (n k : ℕ) (own out : List ℕ) {back : List ℕ} → 1 ≤ length out → back ≡ over (take k (take (length own - 1) (drop 1 own))) (take (length (set out 0 n) - 1) (drop 1 (set out 0 n)))
+pub error-put : (n k : ℕ) (own out : List ℕ) {back : List ℕ} → 1 ≤ length out
+    → back ≡ over (take k (take (length own - 1) (drop 1 own))) (take (length (set out 0 n) - 1) (drop 1 (set out 0 n)))
     → take 1 (set out 0 n) ++ (back ++ drop (length (set out 0 n) - 1) (drop 1 (set out 0 n))) ≡ over (n ∷ take k (drop 1 own)) out
 error-put n k own [] some e = absurd (omega arith)
 error-put n k own (x ∷ out) some e =
@@ -128,7 +140,8 @@ error-size n k own out some fits e =
     rw (error-put n k own out some e, length-append, length-drop) (omega arith)
 
 -- bytes stored behind the first n
-behind-set : {left : List ℕ} (reply : List ℕ) (n : ℕ) (l : List ℕ) (m : ℕ) → length l ≡ m → n + m ≤ length reply → left ≡ sets reply n l → take (n + m) left ≡ take n reply ++ l
+behind-set : {left : List ℕ} (reply : List ℕ) (n : ℕ) (l : List ℕ) (m : ℕ) → length l ≡ m → n + m ≤ length reply → left ≡ sets reply n l
+    → take (n + m) left ≡ take n reply ++ l
 behind-set reply n l m size fits e =
     let front : length (take n reply ++ l) ≡ n + m = rw (length-append, length-take-le n reply (omega arith), size) in
     rw (e, sets-eq l reply n (omega arith)) (take-at (take n reply ++ l) (drop (n + length l) reply) (n + m) front)
@@ -143,13 +156,13 @@ pub record Reading (s : List ℕ) (sh : Shape) (last : ℕ) (notes₀ content₀
   pub whole : longest sh ≡ last + 1
   pub most : last < replyLent
   pub reply-size : length reply ≡ replyLent
-  pub own-size : length own ≡ ownLent
   pub notes-size : length notes ≡ length notes₀
   pub content-size : length content ≡ length content₀
 
-pub reading-starts : {s : List ℕ} {sh : Shape} {last : ℕ} {reply own notes content : List ℕ} {log : Log} → log ≡ fresh → longest sh ≡ last + 1 → last < replyLent → length reply ≡ replyLent → length own ≡ ownLent
+pub reading-starts : {s : List ℕ} {sh : Shape} {last : ℕ} {reply own notes content : List ℕ} {log : Log} → log ≡ fresh → longest sh ≡ last + 1
+    → last < replyLent → length reply ≡ replyLent
     → Reading s sh last notes content reply own notes content log 0 0
-reading-starts e whole most r o = rw e (record {
+reading-starts e whole most r = rw e (record {
   given = [];
   chain = λ k x r w. w;
   gives = gives-none (omega arith);
@@ -158,7 +171,6 @@ reading-starts e whole most r o = rw e (record {
   whole = whole;
   most = most;
   reply-size = r;
-  own-size = o;
   notes-size = refl;
   content-size = refl;
 })
@@ -170,8 +182,10 @@ module _ {s : List ℕ} {sh : Shape} {last : ℕ} {notes₀ content₀ reply own
   -- the reading ended
   module _ (k : CallKind) (is : shapeOf (kindFor k) ≡ sh) where
     over-with : {answer : Answer} {at : ℕ} {end : Log} {reply-left own-left notes-left content-left : List ℕ} (g : List rules.Report)
-        → Whole s (kindFor k) i (take got reply) (recording g at (outcomeOf answer reply-left own-left)) → answer ≡ answerOf (outcomeOf answer reply-left own-left)
-        → Gives g log i notes content end at notes-left content-left → All-done s k notes₀ content₀ (endedAt answer at end) reply-left own-left notes-left content-left
+        → Whole s (kindFor k) i (take got reply) (recording g at (outcomeOf answer reply-left own-left))
+        → answer ≡ answerOf (outcomeOf answer reply-left own-left)
+        → Gives g log i notes content end at notes-left content-left
+        → All-done s k notes₀ content₀ (endedAt answer at end) reply-left own-left notes-left content-left
     over-with g w e n = record { given = v .given ++ g; says = v .chain (kindFor k) is _ w; sized = e; gives = gives-then (v .gives) n }
 
     turned-as : {t : Turn} (b : ℕ) → shapeTurn sh got b ≡ t → shapeTurn (shapeOf (kindFor k)) (length (take got reply)) b ≡ t
@@ -179,15 +193,16 @@ module _ {s : List ℕ} {sh : Shape} {last : ℕ} {notes₀ content₀ reply own
         let n : length (take got reply) ≡ got = length-take-le got reply (le-of-lt reading-room) in
         ap (λ (x : Shape). shapeTurn x (length (take got reply)) b) is ∙ ap (λ (m : ℕ). shapeTurn sh m b) n ∙ e
 
-    pub reading-ran-out : unitAt s i ≡ walk.gone → All-done s k notes₀ content₀ (endedAt variant.More (length s) log) reply own notes content
+    pub reading-ran-out : unitAt s i ≡ units.gone → All-done s k notes₀ content₀ (endedAt variant.More (length s) log) reply own notes content
     reading-ran-out u = over-with [] (laws.top-gone s (kindFor k) i (take got reply) (v .near) u) refl (gives-none (v .near))
 
-    pub reading-refused : {b n x : ℕ} → unitAt s i ≡ walk.datum b n → shapeTurn sh got b ≡ refused x → All-done s k notes₀ content₀ (endedAt (variant.Refused x) n log) reply own notes content
+    pub reading-refused : {b n x : ℕ} → unitAt s i ≡ units.datum b n → shapeTurn sh got b ≡ refused x
+        → All-done s k notes₀ content₀ (endedAt (variant.Refused x) n log) reply own notes content
     reading-refused {b} u t =
         let q = data-near s i u in
         over-with [] (laws.top-refused s (kindFor k) i (take got reply) (v .near) u (turned-as b t)) refl (gives-none (omega arith))
 
-    pub reading-done : {b n : ℕ} → unitAt s i ≡ walk.datum b n → shapeTurn sh got b ≡ done
+    pub reading-done : {b n : ℕ} → unitAt s i ≡ units.datum b n → shapeTurn sh got b ≡ done
         → All-done s k notes₀ content₀ (endedAt (variant.Reply (got + 1)) n log) (set reply got b) own notes content
     reading-done {b} {n} u t =
         let q = data-near s i u in
@@ -195,19 +210,20 @@ module _ {s : List ℕ} {sh : Shape} {last : ℕ} {notes₀ content₀ reply own
         over-with [] (rw (take-next reply got b reading-room) (laws.top-done s (kindFor k) i (take got reply) (v .near) u (turned-as b t)))
         (ap variant.Reply (sym size)) (gives-none (omega arith))
 
-    pub reading-halts : {m n : ℕ} {w : rules.Meaning} {r : Walked} {answer : Answer} {own-left notes-left content-left : List ℕ} → unitAt s i ≡ walk.mark m n → w ≡ rules.meaningOf m
-        → Act-done s 0 n w log notes content r own-left notes-left content-left → r .end ≡ Halt answer
+    pub reading-halts : {m n : ℕ} {r : Walked} {answer : Answer} {own-left notes-left content-left : List ℕ} → unitAt s i ≡ units.mark m n
+        → Act-done s 0 (min n (length s)) (rules.meaningOf m) log notes content r own-left notes-left content-left → r .end ≡ Halt answer
         → All-done s k notes₀ content₀ (endedAt answer (r .at) (r .log)) reply own-left notes-left content-left
-    reading-halts {m} {n} {r = r} {answer} {own-left} u is a e =
+    reading-halts {m} {n} {r} {answer} {own-left} u b e =
         let q = mark-near s i u in
+        let a = at-mark i u b in
         let ends : Ends answer own-left = subst (λ (x : code-end.End). Ended-well x own-left) e (a .ends) in
         let says : Act s 0 n (rules.meaningOf m) (a .given) (halt (r .at) (outcomeOf answer [] own-left)) =
-        subst (λ (x : code-end.End). Act s 0 n (rules.meaningOf m) (a .given) (wentOf x (r .at) own-left)) e
-        (subst (λ (x : rules.Meaning). Act s 0 n x (a .given) (wentOf (r .end) (r .at) own-left)) is (a .says)) in
+        subst (λ (x : code-end.End). Act s 0 n (rules.meaningOf m) (a .given) (wentOf x (r .at) own-left)) e (a .says) in
         over-with (a .given) (rw (ends .same reply) (laws.top-halt s (kindFor k) i (take got reply) (v .near) u says)) (rw (ends .same reply) (ends .sized)) (a .gives i (omega arith))
 
   -- a byte that needs more, and plain bytes behind it
-  pub reading-goes-on : {b n m : ℕ} {left : List ℕ} → unitAt s i ≡ walk.datum b n → shapeTurn sh got b ≡ more → Pass-done (got + 1) last (drop n s) (set reply got b) m left
+  pub reading-goes-on : {b n m : ℕ} {left : List ℕ} → unitAt s i ≡ units.datum b n → shapeTurn sh got b ≡ more
+      → Pass-done (got + 1) last (drop n s) (set reply got b) m left
       → Reading s sh last notes₀ content₀ left own notes content log (n + m) (got + 1 + m)
   reading-goes-on {b} {n} {m} {left} u t p =
       let q = data-near s i u in
@@ -232,7 +248,6 @@ module _ {s : List ℕ} {sh : Shape} {last : ℕ} {notes₀ content₀ reply own
         whole = v .whole;
         most = v .most;
         reply-size = ap length (p .bytes) ∙ length-sets (set reply got b) (got + 1) l ∙ here;
-        own-size = v .own-size;
         notes-size = v .notes-size;
         content-size = v .content-size;
       }
@@ -246,24 +261,24 @@ module _ {s : List ℕ} {sh : Shape} {last : ℕ} {notes₀ content₀ reply own
           ap (λ (x : Shape). shapeTurn x (length (take got reply)) b) is ∙ ap (λ (m : ℕ). shapeTurn sh m b) n ∙ e
 
   -- an action that leaves the reply at its place
-  pub reading-acts : {m n : ℕ} {w : rules.Meaning} {r : Walked} {own-left notes-left content-left : List ℕ} → unitAt s i ≡ walk.mark m n → w ≡ rules.meaningOf m
-      → Act-done s 0 n w log notes content r own-left notes-left content-left → r .end ≡ On → length own-left ≡ length own → length notes-left ≡ length notes → length content-left ≡ length content
+  pub reading-acts : {m n : ℕ} {r : Walked} {own-left notes-left content-left : List ℕ} → unitAt s i ≡ units.mark m n
+      → Act-done s 0 (min n (length s)) (rules.meaningOf m) log notes content r own-left notes-left content-left → r .end ≡ On
+      → length notes-left ≡ length notes → length content-left ≡ length content
       → Reading s sh last notes₀ content₀ reply own-left notes-left content-left (r .log) (r .at) got
-  reading-acts {m} {n} {r = r} {own-left} u is a e o p c =
+  reading-acts {m} {n} {r} {own-left} u b e p c =
       let q = mark-near s i u in
+      let a = at-mark i u b in
       let says : Act s 0 n (rules.meaningOf m) (a .given) (on (r .at)) =
-      subst (λ (x : code-end.End). Act s 0 n (rules.meaningOf m) (a .given) (wentOf x (r .at) own-left)) e
-      (subst (λ (x : rules.Meaning). Act s 0 n x (a .given) (wentOf (r .end) (r .at) own-left)) is (a .says)) in
+      subst (λ (x : code-end.End). Act s 0 n (rules.meaningOf m) (a .given) (wentOf x (r .at) own-left)) e (a .says) in
       record {
         given = v .given ++ a .given;
-        chain = λ k is x w. subst (Whole s k 0 []) (laws.give-give (v .given) (a .given) x) (v .chain k is _ (laws.top-on s k i (take got reply) (v .near) u says w));
+        chain = λ k is x w. subst (Whole s k 0 []) (give-give (v .given) (a .given) x) (v .chain k is _ (laws.top-on s k i (take got reply) (v .near) u says w));
         gives = gives-then (v .gives) (a .gives i (omega arith));
         near = a .near;
         short = v .short;
         whole = v .whole;
         most = v .most;
         reply-size = v .reply-size;
-        own-size = o ∙ v .own-size;
         notes-size = p ∙ v .notes-size;
         content-size = c ∙ v .content-size;
       }
@@ -276,12 +291,14 @@ fresh-view : (reply own : List ℕ) → viewOf link.fresh reply own ≡ rules.fr
 unfolding usableOf
 fresh-view reply own = rw nest-none
 
-pub begins-fresh : {l : Link} {k : CallKind} {r : Started} {a : Begun} → l ≡ link.fresh → Begin-done l k r → r .answer ≡ a → rules.begin rules.fresh (kindFor k) .answer ≡ begunOf a
+pub begins-fresh : {l : Link} {k : CallKind} {r : Started} {a : Begun} → l ≡ link.fresh → Begin-done l k r → r .answer ≡ a
+    → rules.begin rules.fresh (kindFor k) .answer ≡ begunOf a
 begins-fresh {k = k} is d e =
     ap (λ (x : rules.Link). rules.begin x (kindFor k) .answer) (sym (ap (λ (x : Link). viewOf x [] []) is ∙ fresh-view [] [])) ∙ sym (d .answer [] []) ∙ ap begunOf e
 
 -- What the rules give, by how the call begins on a fresh link.
-reply-from : (k : Kind) (s : List ℕ) {a : rules.Begun} → rules.begin rules.fresh k .answer ≡ a → recordedReply k s ≡ recordedFrom a (rules.begin rules.fresh k .next) s
+reply-from : (k : Kind) (s : List ℕ) {a : rules.Begun} → rules.begin rules.fresh k .answer ≡ a
+    → recordedReply k s ≡ recordedFrom a (rules.begin rules.fresh k .next) s
 unfolding recordedReply
 reply-from k s e = ap (λ (a : rules.Begun). recordedFrom a (rules.begin rules.fresh k .next) s) e
 
@@ -291,15 +308,18 @@ unfolding rules.begin rules.enters
 waits-some k = choice (λ (x : rules.Entry). x .answer ≡ rules.begun → 0 < longest (shapeOf k)) (eqb (longest (shapeOf k)) 0)
     (λ _ e. let z : _≡_ {A = ℕ} 0 1 = cc in absurd (omega arith)) (λ e _. let n = eqb-false (longest (shapeOf k)) 0 e in omega arith)
 
-waits-reply : (k : Kind) (s : List ℕ) → 0 < longest (shapeOf k) → recordedReply k s ≡ recorded 0 (rules.live (inside []) (rules.frame (rules.waiting k) [])) s
+waits-reply : (k : Kind) (s : List ℕ) → 0 < longest (shapeOf k)
+    → recordedReply k s ≡ recorded 0 (rules.live (inside []) (rules.frame (rules.waiting k) [])) s
 unfolding recordedReply rules.begin rules.enters
 waits-reply k s some = rw (ne-eqb (longest (shapeOf k)) 0 (λ e. omega arith))
 
 -- room for what was counted
-room-counted : (log : Log) {a b : ℕ} (notes content : ℕ) → 5 * log .noted ≡ a → log .stored ≡ b → (leb a notes && leb b content) ≡ not (isShort log notes content)
+room-counted : (log : Log) {a b : ℕ} (notes content : ℕ) → 5 * log .noted ≡ a → log .stored ≡ b
+    → (leb a notes && leb b content) ≡ not (isShort log notes content)
 room-counted log {a} {b} notes content n d = go (ltb (notes / 5) (log .noted)) refl (ltb content (log .stored)) refl
   where
-    go : (t : Bool) → ltb (notes / 5) (log .noted) ≡ t → (u : Bool) → ltb content (log .stored) ≡ u → (leb a notes && leb b content) ≡ not (cond t true u)
+    go : (t : Bool) → ltb (notes / 5) (log .noted) ≡ t → (u : Bool) → ltb content (log .stored) ≡ u
+        → (leb a notes && leb b content) ≡ not (cond t true u)
     go true e u f = rw (lt-leb a notes (omega (arith, ltb-true (notes / 5) (log .noted) e)))
     go false e true f = rw (le-leb a notes (omega (arith, ltb-false (notes / 5) (log .noted) e)), lt-leb b content (omega (arith, ltb-true content (log .stored) f)))
     go false e false f = rw (le-leb a notes (omega (arith, ltb-false (notes / 5) (log .noted) e)), le-leb b content (omega (arith, ltb-false content (log .stored) f)))
@@ -331,7 +351,8 @@ module _ {s : List ℕ} {k : CallKind} {notes content : List ℕ} {r : Ended} {r
   }
 
   -- what a run into the lent bytes leaves
-  run-reads : {out out-left : List ℕ} → hasRoom (recordedReply (kindFor k) s) (length notes) (length content) ≡ true → out-left ≡ over (bytesOf (outcomeOf (r .answer) reply own)) out
+  run-reads : {out out-left : List ℕ} → hasRoom (recordedReply (kindFor k) s) (length notes) (length content) ≡ true
+      → out-left ≡ over (bytesOf (outcomeOf (r .answer) reply own)) out
       → Read (recordedReply (kindFor k) s) notes content out (record { answer = r .answer; used = r .at; noted = r .log .noted; stored = r .log .stored }) notes-left content-left out-left
   unfolding hasRoom
   run-reads room settled =
@@ -348,7 +369,8 @@ module _ {s : List ℕ} {k : CallKind} {notes content : List ℕ} {r : Ended} {r
 
 -- both runs: the second into lent bytes that have room for what the first counted
 pub whole-read : {s : List ℕ} {k : CallKind} {notes₁ content₁ notes content out : List ℕ} {a b : Ended} {reply₁ own₁ notes₂ content₂ reply own notes-left content-left out-left : List ℕ}
-    → 0 < longest (shapeOf (kindFor k)) → All-done s k notes₁ content₁ a reply₁ own₁ notes₂ content₂ → isShort (a .log) (length notes) (length content) ≡ false
+    → 0 < longest (shapeOf (kindFor k)) → All-done s k notes₁ content₁ a reply₁ own₁ notes₂ content₂
+    → isShort (a .log) (length notes) (length content) ≡ false
     → All-done s k notes content b reply own notes-left content-left → out-left ≡ over (bytesOf (outcomeOf (b .answer) reply own)) out
     → Read-done k s notes content out (record { answer = b .answer; used = b .at; noted = b .log .noted; stored = b .log .stored }) notes-left content-left out-left
 whole-read {notes = notes} {content} some first e d settled = record {
@@ -359,7 +381,8 @@ whole-read {notes = notes} {content} some first e d settled = record {
 }
 
 -- the call ended before the first byte: what the rules say of it is its answer, and there is nothing to note
-ended-read : (s : List ℕ) (k : CallKind) (notes content out : List ℕ) {answer : Answer} {u : Outcome} → recordedReply (kindFor k) s ≡ recording [] 0 u → answer ≡ answerOf u → bytesOf u ≡ []
+ended-read : (s : List ℕ) (k : CallKind) (notes content out : List ℕ) {answer : Answer} {u : Outcome} → recordedReply (kindFor k) s ≡ recording [] 0 u
+    → answer ≡ answerOf u → bytesOf u ≡ []
     → Read-done k s notes content out (nothingRead answer) notes content out
 unfolding hasRoom addsAll
 ended-read s k notes content out is e none = record {
@@ -370,8 +393,10 @@ ended-read s k notes content out is e none = record {
 }
 
 module _ {s : List ℕ} {k : CallKind} {notes content out : List ℕ} where
-  pub complete-read : rules.begin rules.fresh (kindFor k) .answer ≡ rules.complete → Read-done k s notes content out (nothingRead (variant.Reply 0)) notes content out
+  pub complete-read : rules.begin rules.fresh (kindFor k) .answer ≡ rules.complete
+      → Read-done k s notes content out (nothingRead (variant.Reply 0)) notes content out
   complete-read e = ended-read s k notes content out (reply-from (kindFor k) s e) refl refl
 
-  pub denied-read : {n : ℕ} → rules.begin rules.fresh (kindFor k) .answer ≡ rules.denied n → Read-done k s notes content out (nothingRead (variant.Refused n)) notes content out
+  pub denied-read : {n : ℕ} → rules.begin rules.fresh (kindFor k) .answer ≡ rules.denied n
+      → Read-done k s notes content out (nothingRead (variant.Refused n)) notes content out
   denied-read e = ended-read s k notes content out (reply-from (kindFor k) s e) refl refl

@@ -1,6 +1,6 @@
 -- What the reader of a recorded reply promises: what it gives is that of the stepwise link over the same bytes, and it is written where the lent bytes
--- have room for all of it.
-use Prim.Native.Nat.{ℕ, _*_, _≤_, _<_}
+-- have room for all of it. `answerOf`, each outcome's answer, is passed on from action_bytes.
+use Prim.Native.Nat.{ℕ, _*_}
 use mathlib.Core.Path.{_≡_}
 use mathlib.Core.Bool.{Bool, true, false, _&&_}
 use mathlib.Core.List.{List, [], _∷_}
@@ -12,16 +12,10 @@ use Rattle.serial_rules.specs.Record as record-rules
 use Rattle.serial_rules.specs.Record.{Outcome, ranOut, closed, recordedReply}
 use Rattle.kind.specs.Kinds.{kindFor}
 use Rattle.kind.specs.declared.CallKind.{CallKind}
-use Rattle.link.specs.declared.Answer.{Answer}
 use Rattle.link.specs.declared.Answer.the-variants as variant
-use Rattle.link.specs.View.{answerFor}
 use Rattle.notes.specs.Notes.{notesOf, dataOf}
+pub use Rattle.action_bytes.specs.Parts.{answerOf}
 use Rattle.recorded.specs.declared.Recorded.{Recorded}
-
--- each outcome's answer; need-more where the recording ran out
-abbrev pub answerOf : Outcome → Answer
-answerOf ranOut = variant.More
-answerOf (closed r) = answerFor r
 
 -- the bytes that a report leaves: those of a reply, or the number of an error and its text
 abbrev pub bytesIn : rules.Report → List ℕ

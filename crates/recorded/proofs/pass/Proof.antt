@@ -14,13 +14,16 @@ part-copy-plain-end : tie.Need-part-copy-plain-end
 part-copy-plain-end c = search needs
 
 copy-plain-requires : tie.Need-copy-plain-requires
-copy-plain-requires c κs = search needs
+copy-plain-requires c κs = tt
 
 same-length : tie.Need-same-length
 same-length c = search needs
 
 returns : tie.Need-returns
-returns c = passes-plain (c .before .before .before .before .before .before .args .got) (c .before .before .before .before .before .before .args .last) (c .before .before .before .before .before .before .pre .0) (c .before .before .before .before .before .before .pre .1) (c .before .before .copy-plain .ensures)
+returns c =
+    passes-plain (c .before .before .before .before .before .before .args .got) (c .before .before .before .before .before .before .args .last)
+    (c .before .before .before .before .before .before .pre .0) (c .before .before .before .before .before .before .pre .1)
+    (c .before .before .copy-plain .ensures)
 
 pub pass-spec : {M : Type 1} → statement M
 pass-spec =

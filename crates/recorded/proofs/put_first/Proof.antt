@@ -34,7 +34,9 @@ loop-less : tie.Need-loop-less Inv-loop μ-loop
 loop-less c = search needs
 
 loop-again : tie.Need-loop-again Inv-loop μ-loop
-loop-again c = puts-next (c .before .before .before .loop .inv) (c .before .before .loop-test .taken) (c .before .if1 .left) (c .before .before .before .before .pre)
+loop-again c =
+    puts-next (c .before .before .before .loop .inv) (c .before .before .loop-test .taken) (c .before .if1 .left)
+    (c .before .before .before .before .pre)
 
 same-length-2 : tie.Need-same-length-2 Inv-loop μ-loop
 same-length-2 c = puts-size (c .before .loop .inv)

@@ -1,13 +1,16 @@
--- What the parts of the recorded reader leave: notes one after the other, an action's own bytes, and how an action starts.
+-- An action's own bytes, and how an action starts.
 use Prim.Native.Nat.{ℕ, zero, suc, _+_, _-_, _≤_, _<_}
 use native.Mathlib.Omega.{arith}
 use mathlib.Core.Path.{_≡_, refl, sym, ap, subst, _∙_}
 use mathlib.Core.Bool.{Bool, true, false, cond}
-use mathlib.Core.List.{List, [], _∷_, _++_, map}
+use mathlib.Core.List.{List, [], _∷_, _++_}
 use lib.Dec.{eqb, ltb}
-use lib.ListN.{length, take, drop, set, length-take, length-drop, length-set}
+use lib.ListN.{length, take, drop, set, length-drop, length-set}
 use lib.Seq.{length-take-le, take-set-le, getD-take, getD-at}
-use borrow.Author.Tests.{lt-ltb, ltb-true, le-leb, ne-eqb, leb-true, leb-false}
+use borrow.Author.Tests.{lt-ltb, ltb-true, ne-eqb, leb-true, leb-false}
+use Rattle.escape.specs.Units as units
+use Rattle.escape.specs.Units.{unitAt}
+use Rattle.escape.proofs.Units.{data-near, mark-near}
 use Rattle.serial_rules.specs.Body.{Turn, more, done, refused}
 use Rattle.serial_rules.specs.Fields.{at}
 use Rattle.serial_rules.specs.Reply.{shapeTurn}
@@ -16,8 +19,6 @@ use Rattle.serial_rules.specs.Record.{closed, passes}
 use Rattle.serial_rules.proofs.Depth.{own-fits}
 use Rattle.serial_rules.proofs.Lent.{take-next}
 use Rattle.serial_rules.proofs.Shapes.{choice, fixed-done, text-done}
-use Rattle.turns.specs.Plain.{isData, none}
-use Rattle.turns.proofs.Plain.{run-all}
 use Rattle.actions.specs.Actions.{targetFor, actionFor}
 use Rattle.actions.specs.declared.Target.{Target}
 use Rattle.actions.specs.declared.Target.the-variants.{Set, Execute, Load, Save}
@@ -26,151 +27,10 @@ use Rattle.actions.specs.declared.Action.the-variants.{Error, Event, Address, B
 use Rattle.link.specs.declared.Answer.{Answer}
 use Rattle.link.specs.declared.Answer.the-variants as variant
 use Rattle.link.specs.View.{ownLent, transferFor, reportOf, answerFor, failureFor, toldBy}
-use Rattle.notes.specs.declared.Log.{Log}
-use Rattle.notes.specs.Notes.{Given, longestRun, adds, addsAll}
-use Rattle.notes.specs.Logs.{Holds, dataIn, mostCount, countable, Add-done, joins, joinable, Add-run-done}
-use Rattle.notes.proofs.Laws.{run-within}
-use Rattle.notes.proofs.Counts.{contentIn, content-more, adds-append, notes-most}
-use Rattle.recorded.specs.declared.Loads.{Loads}
-use Rattle.recorded.specs.Walk as walk
-use Rattle.recorded.specs.Walk.{unitAt, Own}
-use Rattle.recorded.specs.Parts.{outcomeOf, Ends, Held, Gives, Whole-done, Halted-done, finishOf, Began-halt, Began-told, Began-opens, Began-done, Load-done, isFifth}
-use Rattle.recorded.proofs.Walk as laws
-use Rattle.recorded.proofs.Walk.{data-near, mark-near}
-
--- reports given one after the other
-pub gives-none : {log : Log} {n m : ℕ} {notes content : List ℕ} → n ≤ m → Gives [] log n notes content log m notes content
-unfolding addsAll
-gives-none le = record { adds-them = λ G a b h. record { holds = h .holds; few = omega (arith, h .few); small = omega (arith, h .small) } }
-
-pub gives-then : {g l : List rules.Report} {log mid end : Log} {n m k : ℕ} {notes content notes-mid content-mid notes-left content-left : List ℕ}
-    → Gives g log n notes content mid m notes-mid content-mid → Gives l mid m notes-mid content-mid end k notes-left content-left
-    → Gives (g ++ l) log n notes content end k notes-left content-left
-gives-then {g} {l} {end = end} {k = k} {notes-left = notes-left} {content-left} p q = record {
-  adds-them = λ G a b h. subst (λ (x : Given). Held x end k a b notes-left content-left) (sym (adds-append G g l)) (q .adds-them (addsAll G g) a b (p .adds-them G a b h));
-}
-
-pub gives-later : {g : List rules.Report} {log end : Log} {n m k : ℕ} {notes content notes-left content-left : List ℕ} → m ≤ k
-    → Gives g log n notes content end m notes-left content-left → Gives g log n notes content end k notes-left content-left
-gives-later le p = record {
-  adds-them = λ G a b h. let w = p .adds-them G a b h in record { holds = w .holds; few = omega (arith, w .few); small = omega (arith, w .small) };
-}
-
--- each report has one note at most
-noted-most : {G : Given} {log end : Log} {a b notes content notes-left content-left : List ℕ} (l : List rules.Report) → Holds G log a b notes content
-    → Holds (addsAll G l) end a b notes-left content-left → end .noted ≤ log .noted + length l
-noted-most {G} l h k = omega (arith, h .count, k .count, notes-most G l)
-
--- the data of an answer are as many as it says, at most
-content-in : (a : Answer) (own : List ℕ) → length (contentIn (reportOf a [] own)) ≤ dataIn a
-content-in variant.More own = omega arith
-content-in (variant.Character b) own = omega arith
-content-in (variant.Reply n) own = omega arith
-content-in (variant.EscapeState x) own = omega arith
-content-in (variant.Event y x a) own = omega arith
-content-in (variant.Address t b3 b2 b1 b0) own = omega arith
-content-in (variant.Block n) own = omega (arith, length-take n own)
-content-in (variant.Loaded b) own = omega arith
-content-in (variant.Ended save) own = omega arith
-content-in (variant.Error n k) own = omega arith
-content-in variant.Restart own = omega arith
-content-in (variant.Refused n) own = omega arith
-
--- the counts have room for an answer, since each note and each byte of data took a raw byte
-counts : (log : Log) (a : Answer) (own : ℕ) → log .noted < mostCount → dataIn a ≤ own → dataIn a < 256 → log .stored + dataIn a ≤ mostCount → countable log a own ≡ true
-unfolding countable
-counts log a own n o b s = simp (lt-ltb (log .noted) mostCount n, le-leb (dataIn a) own o, lt-ltb (dataIn a) 256 b, le-leb (log .stored) (mostCount - dataIn a) (omega arith))
-
--- one answer more
-module _ {log end : Log} {a : Answer} {own notes content notes-left content-left : List ℕ} (k : Add-done log a own notes content end notes-left content-left)
-    (own-data : (dataIn a ≤ length own) × (dataIn a < 256)) where
-  adds-one : {G : Given} {n : ℕ} {p q : List ℕ} → n + 1 ≤ mostCount → n + dataIn a ≤ mostCount → Held G log n p q notes content
-      → Holds (adds G (reportOf a [] own)) end p q notes-left content-left
-  adds-one {G} {n} {p} {q} m d h = k .adds-it (counts log a (length own) (omega (arith, h .few)) (own-data .0) (own-data .1) (omega (arith, h .small))) [] G p q (h .holds)
-
-  pub gives-one : {n m : ℕ} → n < m → n + dataIn a ≤ m → m ≤ mostCount → Gives (reportOf a [] own ∷ []) log n notes content end m notes-left content-left
-  unfolding addsAll
-  gives-one {n} {m} less room most = record {
-    adds-them = λ G p q h.
-        let w : Holds (adds G (reportOf a [] own)) end p q notes-left content-left = adds-one (omega arith) (omega arith) h in
-        record {
-          holds = w;
-          few = omega (arith, h .few, noted-most (reportOf a [] own ∷ []) (h .holds) w);
-          small = omega (arith, h .small, h .holds .stored, w .stored, content-more G (reportOf a [] own), content-in a own);
-        };
-  }
-
--- a byte of load data, and those behind it that join its note
-length-loaded : (l : List ℕ) → length (map rules.loaded l) ≡ length l
-length-loaded [] = refl
-length-loaded (b ∷ l) = ap suc (length-loaded l)
-
-loaded-content : (G : Given) (l : List ℕ) → length (addsAll G (map rules.loaded l) .content) ≡ length (G .content) + length l
-unfolding addsAll
-loaded-content G [] = omega arith
-loaded-content G (b ∷ l) = omega (arith, loaded-content (adds G (rules.loaded b)) l, content-more G (rules.loaded b))
-
-gives-loads : {log end : Log} {i : ℕ} {notes content notes-left content-left : List ℕ} (b : ℕ) (l : List ℕ)
-    → ((G : Given) (n : ℕ) (p q : List ℕ) → n < i → Held G log n p q notes content → Holds (addsAll (adds G (rules.loaded b)) (map rules.loaded l)) end p q notes-left content-left)
-    → (n : ℕ) → n < i → Gives (map rules.loaded (b ∷ l)) log n notes content end (i + length l) notes-left content-left
-unfolding addsAll
-gives-loads b l k n less = record {
-  adds-them = λ G p q h.
-      let w = k G n p q less h in
-      record {
-        holds = w;
-        few = omega (arith, h .few, length-loaded l, noted-most (map rules.loaded (b ∷ l)) (h .holds) w);
-        small = omega (arith, h .small, h .holds .stored, w .stored, loaded-content G (b ∷ l));
-      };
-}
-
-abbrev loadsOf : ℕ → Log → Log → Loads
-loadsOf i one all = record { at = i + (all .run - one .run); log = all }
-
--- the run of the last note never shrinks
-pub run-grows : {one all : Log} {raw notes content notes-left content-left : List ℕ} → Add-run-done one raw notes content all notes-left content-left → one .run ≤ all .run
-run-grows {one} {all} {raw} k = go (joinable one (length raw)) refl
-  where
-    go : (t : Bool) → joinable one (length raw) ≡ t → one .run ≤ all .run
-    go true e = omega (arith, k .adds-it e .grew)
-    go false e = omega (arith, ap (λ (l : Log). l .run) (k .beyond e .0))
-
-pub loads : (s : List ℕ) (b i : ℕ) {log one all : Log} {own notes content notes-mid content-mid notes-left content-left : List ℕ} → i ≤ length s → length s ≤ mostCount → 1 ≤ length own
-    → Add-done log (variant.Loaded b) own notes content one notes-mid content-mid → Add-run-done one (drop i s) notes-mid content-mid all notes-left content-left
-    → Load-done s b i log notes content (loadsOf i one all) notes-left content-left
-unfolding addsAll
-loads s b i {log} {one} {all} {own} {notes} {content} {notes-mid} {content-mid} {notes-left} {content-left} near most some k j = go (joinable one (length (drop i s))) refl
-  where
-    first : (G : Given) (n : ℕ) (p q : List ℕ) → n < i → Held G log n p q notes content → Holds (adds G (rules.loaded b)) one p q notes-mid content-mid
-    first G n p q less h = adds-one k (some, omega arith) (omega arith) (omega arith) h
-
-    go : (t : Bool) → joinable one (length (drop i s)) ≡ t → Load-done s b i log notes content (loadsOf i one all) notes-left content-left
-    go true e =
-        let d = j .adds-it e in
-        let n = joins one (drop i s) in
-        let within = run-within one (drop i s) refl in
-        let l = take n (drop i s) in
-        let size : length l ≡ n = length-take-le n (drop i s) (within .1) in
-        let place : i + (all .run - one .run) ≡ i + length l = omega (arith, d .grew, size) in
-        record {
-          more = l;
-          is = ap (λ (m : ℕ). take m (drop i s)) (sym size);
-          plain = run-all isData (longestRun - one .run) (drop i s);
-          at = place;
-          gives = rw place (gives-loads b l (λ G n p q less h. d .adds-all (adds G (rules.loaded b)) p q (first G n p q less h)));
-          near = omega (arith, place, size, within .1, length-drop i s);
-        }
-    go false e =
-        let same = j .beyond e in
-        let place : i + (all .run - one .run) ≡ i + 0 = omega (arith, ap (λ (l : Log). l .run) (same .0)) in
-        record {
-          more = [];
-          is = refl;
-          plain = none;
-          at = place;
-          gives = rw (place, same .0, same .1, same .2) (gives-loads b [] first);
-          near = omega (arith, place);
-        }
+use Rattle.action_bytes.specs.Walk as walk
+use Rattle.action_bytes.specs.Walk.{Own}
+use Rattle.action_bytes.specs.Parts.{outcomeOf, Ends, Whole-done, Halted-done, finishOf, Began-halt, Began-told, Began-opens, Began-done, isFifth}
+use Rattle.action_bytes.proofs.Walk as laws
 
 -- Answers that end the reading inside the actions.
 pub ends-more : {own : List ℕ} → Ends variant.More own
@@ -194,27 +54,30 @@ pub record Owning (s : List ℕ) (a : Action) (from i : ℕ) (own : List ℕ) (h
   pub short : held < rules.ownMost (actionFor a)
   pub size : length own ≡ ownLent
 
-pub own-starts : {s : List ℕ} {a : Action} {from : ℕ} {own : List ℕ} → from ≤ length s → length own ≡ ownLent → 0 < rules.ownMost (actionFor a) → Owning s a from from own 0
+pub own-starts : {s : List ℕ} {a : Action} {from : ℕ} {own : List ℕ} → from ≤ length s → length own ≡ ownLent → 0 < rules.ownMost (actionFor a)
+    → Owning s a from from own 0
 own-starts le e some = record { chain = λ v q. q; far = omega arith; near = le; short = some; size = e }
 
 pub own-below : {s : List ℕ} {a : Action} {from i : ℕ} {own : List ℕ} {held : ℕ} → Owning s a from i own held → held < 257
 own-below {a = a} v = omega (arith, v .short, own-most (actionFor a))
 
 module _ {s : List ℕ} {a : Action} {from i : ℕ} {own : List ℕ} {held : ℕ} (v : Owning s a from i own held) where
-  pub own-ran-out : unitAt s i ≡ walk.gone → Halted-done s a from own variant.More (length s)
+  pub own-ran-out : unitAt s i ≡ units.gone → Halted-done s a from own variant.More (length s)
   own-ran-out u = record { says = v .chain _ (laws.own-gone s (actionFor a) i (take held own) (v .near) u); ends = ends-more; far = omega (arith, v .far, v .near); near = omega arith }
 
-  pub own-marked : {m n : ℕ} → unitAt s i ≡ walk.mark m n → Halted-done s a from own (variant.Refused 5) n
+  pub own-marked : {m n : ℕ} → unitAt s i ≡ units.mark m n → Halted-done s a from own (variant.Refused 5) n
   own-marked u =
       let k = mark-near s i u in
       record { says = v .chain _ (laws.own-mark s (actionFor a) i (take held own) (v .near) u); ends = ends-refused 5; far = omega (arith, v .far); near = k .1 }
 
-  turn : (b : ℕ) {t : Turn} → shapeTurn (rules.ownShape (actionFor a)) held b ≡ t → shapeTurn (rules.ownShape (actionFor a)) (length (take held own)) b ≡ t
+  turn : (b : ℕ) {t : Turn} → shapeTurn (rules.ownShape (actionFor a)) held b ≡ t
+      → shapeTurn (rules.ownShape (actionFor a)) (length (take held own)) b ≡ t
   turn b e =
       let n : length (take held own) ≡ held = length-take-le held own (omega (arith, v .size, own-below v)) in
       ap (λ (m : ℕ). shapeTurn (rules.ownShape (actionFor a)) m b) n ∙ e
 
-  pub own-is-refused : {b n x : ℕ} → unitAt s i ≡ walk.datum b n → shapeTurn (rules.ownShape (actionFor a)) held b ≡ refused x → Halted-done s a from own (variant.Refused x) n
+  pub own-is-refused : {b n x : ℕ} → unitAt s i ≡ units.datum b n → shapeTurn (rules.ownShape (actionFor a)) held b ≡ refused x
+      → Halted-done s a from own (variant.Refused x) n
   own-is-refused {b} {x = x} u t =
       let k = data-near s i u in
       record { says = v .chain _ (laws.own-refused s (actionFor a) i (take held own) (v .near) u (turn b t)); ends = ends-refused x; far = omega (arith, v .far); near = k .1 }
@@ -222,7 +85,8 @@ module _ {s : List ℕ} {a : Action} {from i : ℕ} {own : List ℕ} {held : ℕ
   stored : (b : ℕ) → take (held + 1) (set own held b) ≡ take held own ++ (b ∷ [])
   stored b = take-next own held b (omega (arith, v .size, own-below v))
 
-  pub own-is-done : {b n : ℕ} → unitAt s i ≡ walk.datum b n → shapeTurn (rules.ownShape (actionFor a)) held b ≡ done → Whole-done s a from (set own held b) held n
+  pub own-is-done : {b n : ℕ} → unitAt s i ≡ units.datum b n → shapeTurn (rules.ownShape (actionFor a)) held b ≡ done
+      → Whole-done s a from (set own held b) held n
   own-is-done {b} {n} u t =
       let k = data-near s i u in
       let same : take held (set own held b) ≡ take held own = take-set-le held own held b (omega arith) in
@@ -236,7 +100,8 @@ module _ {s : List ℕ} {a : Action} {from i : ℕ} {own : List ℕ} {held : ℕ
         near = k .1;
       }
 
-  pub own-goes-on : {b n : ℕ} → unitAt s i ≡ walk.datum b n → shapeTurn (rules.ownShape (actionFor a)) held b ≡ more → Owning s a from n (set own held b) (held + 1)
+  pub own-goes-on : {b n : ℕ} → unitAt s i ≡ units.datum b n → shapeTurn (rules.ownShape (actionFor a)) held b ≡ more
+      → Owning s a from n (set own held b) (held + 1)
   own-goes-on {b} {n} u t =
       let k = data-near s i u in
       record {
@@ -306,7 +171,8 @@ may-start (Address Load) d e o h = let l = leb-false 4 d e in lt-ltb (length o) 
 may-start (Address Save) d e o h = let l = leb-false 4 d e in lt-ltb (length o) 4 (omega arith)
 may-start (Block n) d e o h = refl
 
-pub fifth-starts : {s : List ℕ} {i : ℕ} {own : List ℕ} (a : Action) (d : ℕ) → i ≤ length s → isFifth a d ≡ true → Began-halt s d i (rules.starts (actionFor a)) own (variant.Refused 13) i
+pub fifth-starts : {s : List ℕ} {i : ℕ} {own : List ℕ} (a : Action) (d : ℕ) → i ≤ length s → isFifth a d ≡ true
+    → Began-halt s d i (rules.starts (actionFor a)) own (variant.Refused 13) i
 fifth-starts Error d le e = let z : _≡_ {A = ℕ} 0 1 = cc in absurd (omega arith)
 fifth-starts Event d le e = let z : _≡_ {A = ℕ} 0 1 = cc in absurd (omega arith)
 fifth-starts (Address Set) d le e = let z : _≡_ {A = ℕ} 0 1 = cc in absurd (omega arith)
@@ -315,7 +181,8 @@ fifth-starts {s} {i} (Address Load) d le e = record { says = laws.act-fifth s d 
 fifth-starts {s} {i} (Address Save) d le e = record { says = laws.act-fifth s d i rules.save (leb-true 4 d e); ends = ends-refused 13; far = omega arith; near = le }
 fifth-starts (Block n) d le e = let z : _≡_ {A = ℕ} 0 1 = cc in absurd (omega arith)
 
-pub halted-starts : {s : List ℕ} {i : ℕ} {own : List ℕ} {answer : Answer} {k : ℕ} (a : Action) (d : ℕ) → isFifth a d ≡ false → Halted-done s a i own answer k
+pub halted-starts : {s : List ℕ} {i : ℕ} {own : List ℕ} {answer : Answer} {k : ℕ} (a : Action) (d : ℕ) → isFifth a d ≡ false
+    → Halted-done s a i own answer k
     → Began-halt s d i (rules.starts (actionFor a)) own answer k
 halted-starts {s} {i} a d e h = record { says = laws.act-halted s d i (may-start a d e) (h .says); ends = h .ends; far = h .far; near = h .near }
 
@@ -370,8 +237,10 @@ module _ {s : List ℕ} {i : ℕ} {own : List ℕ} {held k : ℕ} (d : ℕ) (siz
       let e : held ≡ 3 = omega (arith, fixed-done 4 held (w .last) (w .most) (w .turn)) in
       rw (before own held 0 (omega arith), before own held 1 (omega arith), before own held 2 (omega arith), ← last-at w, e)
 
-  address-starts : (t : Target) → ((o : List rules.Transfer) → (rules.mayStart (rules.place (targetFor t)) o ≡ true) × (rules.opened (rules.place (targetFor t)) o ≡ o))
-      → Whole-done s (Address t) i own held k → Began-told s d i (rules.starts (rules.place (targetFor t))) own (variant.Address t (at own 0) (at own 1) (at own 2) (at own 3)) k
+  address-starts : (t : Target)
+      → ((o : List rules.Transfer) → (rules.mayStart (rules.place (targetFor t)) o ≡ true) × (rules.opened (rules.place (targetFor t)) o ≡ o))
+      → Whole-done s (Address t) i own held k
+      → Began-told s d i (rules.starts (rules.place (targetFor t))) own (variant.Address t (at own 0) (at own 1) (at own 2) (at own 3)) k
   unfolding passes
   address-starts t keeps w = record { says = laws.act-told s d i _ keeps (ap rules.acted (address-is t w)) refl refl (w .says); own-data = (omega arith, omega arith); far = omega (arith, w .far); near = w .near }
 
@@ -387,7 +256,8 @@ module _ {s : List ℕ} {i : ℕ} {own : List ℕ} {held k : ℕ} (d : ℕ) (siz
     near = w .near;
   }
 
-  pub whole-starts : (a : Action) → isFifth a d ≡ false → Whole-done s a i own held k → Began-done s d i (rules.starts (actionFor a)) own (finishOf a (toldBy a held own) k)
+  pub whole-starts : (a : Action) → isFifth a d ≡ false → Whole-done s a i own held k
+      → Began-done s d i (rules.starts (actionFor a)) own (finishOf a (toldBy a held own) k)
   whole-starts Error e w = error-starts w
   whole-starts Event e w = event-starts w
   whole-starts (Address Set) e w = address-starts Set (λ o. (refl, refl)) w
@@ -404,5 +274,5 @@ module _ (s : List ℕ) (d i : ℕ) (own : List ℕ) (le : i ≤ length s) where
   pub state-begins : (x : Bool) → Began-told s d i (rules.state x) own (variant.EscapeState x) i
   state-begins x = record { says = laws.act-state s d i x; own-data = (omega arith, omega arith); far = omega arith; near = le }
 
-  pub end-begins : d ≡ 0 → Began-halt s d i rules.end own (variant.Refused 5) i
-  end-begins z = record { says = laws.act-end s d i z; ends = ends-refused 5; far = omega arith; near = le }
+pub end-begins : (s : List ℕ) (i : ℕ) (own : List ℕ) → i ≤ length s → Began-halt s 0 i rules.end own (variant.Refused 5) i
+end-begins s i own le = record { says = laws.act-end s 0 i refl; ends = ends-refused 5; far = omega arith; near = le }

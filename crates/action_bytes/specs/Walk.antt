@@ -1,33 +1,14 @@
--- What the two rules of the recorded reader mean to the stepwise link, at every depth, whatever waits and whatever transfers lie below: where it goes,
--- and what it gives on the way. What the private functions promise; no public contract names it.
-use Prim.Native.Nat.{ℕ, suc, _+_}
+-- What an action and the body of a transfer mean to the stepwise link, at every depth, whatever waits and whatever transfers lie below: where it goes,
+-- and what it gives on the way.
+use Prim.Native.Nat.{ℕ, suc}
 use mathlib.Core.Path.{_≡_}
-use mathlib.Core.Bool.{cond, false}
+use mathlib.Core.Bool.{false}
 use mathlib.Core.List.{List, [], _∷_}
-use lib.Dec.{eqb, ltb}
-use lib.ListN.{length, getD, drop}
-use Rattle.serial_rules.specs.Escape.{escape}
-use Rattle.serial_rules.specs.Reply.{Kind}
+use lib.ListN.{length, drop}
 use Rattle.serial_rules.specs.Link as rules
 use Rattle.serial_rules.specs.Session.{inside}
 use Rattle.serial_rules.specs.Record.{Outcome, Recorded, recording, give, reported, recorded}
 use Rattle.link.specs.Parts.{seenStep}
-
--- one data byte or mark of a recording, and the place behind it; or the recording ends before it is whole
-pub data Unit : Type 0 where
-  gone : Unit
-  datum : ℕ → ℕ → Unit
-  mark : ℕ → ℕ → Unit
-
-unfoldable pub unitAt : List ℕ → ℕ → Unit
-unitAt s i =
-    cond (ltb i (length s))
-    (cond (eqb (getD s i 0) escape)
-    (cond (ltb (i + 1) (length s))
-    (cond (eqb (getD s (i + 1) 0) escape) (datum escape (i + 1 + 1)) (mark (getD s (i + 1) 0) (i + 1 + 1)))
-    gone)
-    (datum (getD s i 0) (i + 1)))
-    gone
 
 -- reading goes on at a place, or it ended there
 pub data Went : Type 0 where
@@ -64,7 +45,3 @@ afterOwn s f o a (halt n u) = recording [] n u
 
 pub record Own (s : List ℕ) (a : rules.Action) (i : ℕ) (h : List ℕ) (v : Owned) : Type 0 where
   pub says : (f : rules.Frame) (o : List rules.Transfer) → recorded i (rules.live (rules.layer false (rules.own a h) o) f) (drop i s) ≡ afterOwn s f o a v
-
--- the whole reply of a call of a kind, from the place i on, behind the bytes s of it
-pub record Whole (s : List ℕ) (k : Kind) (i : ℕ) (got : List ℕ) (r : Recorded) : Type 0 where
-  pub says : recorded i (rules.live (inside []) (rules.frame (rules.waiting k) got)) (drop i s) ≡ r

@@ -1,31 +1,30 @@
 -- An action's own bytes are whole: what it tells, and whether it opens a transfer.
-use borrow.Author.Needs.{needs}
-use Rattle.recorded.proofs.finish.Statement.{statement}
-use Rattle.recorded.proofs.finish.Tie as tie
+use Rattle.action_bytes.proofs.finish.Statement.{statement}
+use Rattle.action_bytes.proofs.finish.Tie as tie
 
 enum-told : tie.Need-enum-told
-enum-told c = search needs
+enum-told c = c .match .keys1
 
 enum-told-2 : tie.Need-enum-told-2
-enum-told-2 c = search needs
+enum-told-2 c = c .match .keys2
 
 enum-known-action : tie.Need-enum-known-action
-enum-known-action c = search needs
+enum-known-action c = c .match .keys3
 
 enum-told-3 : tie.Need-enum-told-3
-enum-told-3 c = search needs
+enum-told-3 c = c .match2 .keys1
 
 enum-told-4 : tie.Need-enum-told-4
-enum-told-4 c = search needs
+enum-told-4 c = c .match2 .keys2
 
 enum-told-5 : tie.Need-enum-told-5
-enum-told-5 c = search needs
+enum-told-5 c = c .match2 .keys3
 
 enum-told-6 : tie.Need-enum-told-6
-enum-told-6 c = search needs
+enum-told-6 c = c .match2 .keys4
 
 enum-told-7 : tie.Need-enum-told-7
-enum-told-7 c = search needs
+enum-told-7 c = c .match .keys4
 
 returns : tie.Need-returns
 returns c = rw (c .enum-told .given .1)

@@ -1,10 +1,10 @@
 -- The tests are those of the definition.
 use borrow.Author.Needs.{needs}
-use Rattle.recorded.proofs.is_fifth.Statement.{statement}
-use Rattle.recorded.proofs.is_fifth.Tie as tie
+use Rattle.action_bytes.proofs.is_fifth.Statement.{statement}
+use Rattle.action_bytes.proofs.is_fifth.Tie as tie
 
 opens-transfer-requires : tie.Need-opens-transfer-requires
-opens-transfer-requires c κs = search needs
+opens-transfer-requires c κs = tt
 
 returns : tie.Need-returns
 returns c = rw (← c .before .opens-transfer .ensures, c .if1 .taken)
