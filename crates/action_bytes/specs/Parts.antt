@@ -81,7 +81,8 @@ finishOf (Address Load) a k = began.Opens false a k
 finishOf (Address Save) a k = began.Opens true a k
 finishOf (Block n) a k = began.Told a k
 
--- an action but for the body of the transfer that it opens
+-- An action but for the body of the transfer that it opens. `own` is left with the action's bytes; what it has behind them is free, and all of it where
+-- the reading ended without an error.
 pub record Began-halt (s : List ℕ) (d i : ℕ) (w : rules.Meaning) (own : List ℕ) (answer : Answer) (k : ℕ) : Type 0 where
   pub says : Act s d i w [] (halt k (outcomeOf answer [] own))
   pub ends : Ends answer own

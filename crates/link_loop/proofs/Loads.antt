@@ -1,5 +1,5 @@
 -- Load bytes behind one that was noted: each is a step that leaves the link as it is, so that all of them are a chain of steps.
-use Prim.Native.Nat.{ℕ, _-_, _%_, _<_}
+use Prim.Native.Nat.{ℕ, _+_, _-_, _%_, _<_}
 use native.Mathlib.Omega.{arith}
 use mathlib.Core.Path.{_≡_, refl, sym, ap, subst}
 use mathlib.Core.Bool.{Bool, true, false, not, _&&_}
@@ -21,6 +21,7 @@ use Rattle.link.proofs.Steps.{usable-live, usable-held, data-loaded, data-outsi
 use Rattle.notes.specs.declared.Log.{Log}
 use Rattle.notes.specs.Notes.{longestRun, addsAll}
 use Rattle.notes.specs.Logs.{joins, joinable, Add-run-done}
+use Rattle.notes.proofs.Laws.{run-holds}
 use Rattle.link_loop.specs.Run.{Runs, stop, took}
 use Rattle.link_loop.specs.Parts.{quietly, inLoad, Load-pass-done}
 
@@ -73,11 +74,12 @@ module _ (l : Link) {log : Log} {raw room content : List ℕ} where
       go true on =
           let j = d .adds-it on in
           let n = joins log raw in
-          let is : r .run - log .run ≡ n = omega (arith, j .grew) in
+          let grew : r .run ≡ log .run + n = ap (λ (x : Log). x .run) (j .grew) in
+          let is : r .run - log .run ≡ n = omega arith in
           let most = run-most isData (longestRun - log .run) raw in
           record {
-            grows = omega (arith, j .grew);
-            within = omega (arith, j .grew, most .1);
+            grows = omega arith;
+            within = omega (arith, most .1);
             steps = λ reply own. rw is (load-steps l u h reply own (take n raw) (run-all isData (longestRun - log .run) raw));
-            adds-them = λ g room₀ content₀ w. rw is (j .adds-all g room₀ content₀ w);
+            adds-them = λ g room₀ content₀ w. rw is (run-holds on j g room₀ content₀ w);
           }

@@ -21,7 +21,7 @@ use Rattle.link.specs.View.{ownLent, viewOf, reportOf, answerFor, Step-done}
 use Rattle.notes.specs.declared.Log.{Log}
 use Rattle.notes.specs.Notes.{Given, nothing, addsAll, notesOf, dataOf}
 use Rattle.notes.specs.Logs.{fresh, Holds, dataIn, mostCount, countable, Add-done}
-use Rattle.notes.proofs.Laws.{holds-nothing}
+use Rattle.notes.proofs.Laws.{holds-nothing, logs-hold}
 use Rattle.notes.proofs.Counts.{contentIn, data-counted, adds-append, adds-snoc, adds-quiet, notes-most}
 use Rattle.link_loop.specs.declared.Ran.{Ran}
 use Rattle.link_loop.specs.declared.Taken.{Taken}
@@ -232,7 +232,7 @@ module _ {l q : Link} {reply own room content reply-now own-now room-now content
       reports = p .reports ++ (reportOf (o .answer) reply-left own-left ∷ []);
       passed = passed-more (p .passed) (reportOf (o .answer) reply-left own-left) (not-false (passes (reportOf (o .answer) reply-left own-left)) (ends-lent (o .answer) reply-left own-left ∙ goes));
       steps = rw (add-one, take-suc raw i 0) (runs-more (p .steps) d);
-      held = rw (adds-snoc nothing (p .reports) (reportOf (o .answer) reply-left own-left)) (a .adds-it on reply-left (addsAll nothing (p .reports)) room content (p .held));
+      held = rw (adds-snoc nothing (p .reports) (reportOf (o .answer) reply-left own-left)) (logs-hold (reportOf (o .answer) reply-left own-left) (a .adds-it on reply-left) (addsAll nothing (p .reports)) room content (p .held));
     }
 
     -- a step that ends the loop

@@ -18,10 +18,13 @@ use Rattle.turns.specs.Plain.{isData}
 use Rattle.turns.proofs.Plain.{run-most}
 use Rattle.link.specs.declared.Answer.{Answer}
 use Rattle.link.specs.declared.Answer.the-variants as variant
-use Rattle.link.specs.View.{transferFor, reportOf}
+use Rattle.link.specs.View.{transferFor}
 use Rattle.notes.specs.declared.Log.{Log}
-use Rattle.notes.specs.Notes.{Given, given, nothing, runNote, notesIn, noted, longestRun, adds, addsAll}
-use Rattle.notes.specs.Logs.{fresh, Lays, Holds, dataIn, mostCount, countable, Adds, Added, Add-done, joins, joinable, Joined-done, Add-run-done, Wrote, notedIn, grownBy, goesOn}
+use Rattle.notes.specs.Notes.{Given, given, nothing, runNote, notesIn, noted, longestRun, transferNumber, adds, addsAll}
+use Rattle.notes.specs.Logs.{fresh, Lays, Holds, dataIn, mostCount, countable, goesOn, Wrote, notedIn, startedIn, grownBy, Unchanged, Noted, Block-done, Loaded-done, Logs, Added, Add-done, joins, joinable, Joined-done, Add-run-done}
+
+pub not-both : {t : Bool} → t ≡ true → t ≡ false → ⊥
+not-both on off = let z : _≡_ {A = ℕ} 0 1 = cc in omega arith
 
 -- A write at a place is one of a part that was lent in turn.
 pub wrote-part : {w out back : List ℕ} {n : ℕ} (at : ℕ) → at ≤ length out → Put w (take (length out - at) (drop at out)) back n
@@ -36,15 +39,16 @@ wrote-part {w} {out} {back} {n} at h p =
     record {
       size = rw (e, length-append, length-append, length-take-le at out h, length-drop) (omega arith);
       bytes = λ _. e;
+      full = λ k. absurd (omega arith);
     }
 
 -- nothing is written where there is no room
 pub wrote-none : {w out : List ℕ} (at : ℕ) → length out < at + length w → Wrote at w out out
-wrote-none at h = record { size = refl; bytes = λ k. absurd (omega arith) }
+wrote-none at h = record { size = refl; bytes = λ k. absurd (omega arith); full = λ _. refl }
 
 -- one byte
 pub wrote-one : {out : List ℕ} (at b : ℕ) → at < length out → Wrote at (b ∷ []) out (set out at b)
-wrote-one {out} at b h = record { size = length-set out at b; bytes = λ k. sets-eq (b ∷ []) out at k ∙ append-assoc (take at out) (b ∷ []) (drop (at + 1) out) }
+wrote-one {out} at b h = record { size = length-set out at b; bytes = λ k. sets-eq (b ∷ []) out at k ∙ append-assoc (take at out) (b ∷ []) (drop (at + 1) out); full = λ k. absurd (omega arith) }
 
 -- five bytes stored at the start
 pub set-five : (out : List ℕ) (a b c d e : ℕ) → 5 ≤ length out
@@ -97,7 +101,7 @@ holds-nothing = record {
 
 -- one note more
 module _ {log r : Log} {w notes content notes-left : List ℕ} (is : r ≡ notedIn log) (k : Wrote (5 * log .noted) w notes notes-left) (five : length w ≡ 5) where
-  pub noted-more : (g : Given) (notes₀ content₀ : List ℕ) → Holds g log notes₀ content₀ notes content → Holds (noted g w) r notes₀ content₀ notes-left content
+  noted-more : (g : Given) (notes₀ content₀ : List ℕ) → Holds g log notes₀ content₀ notes content → Holds (noted g w) r notes₀ content₀ notes-left content
   noted-more g notes₀ content₀ h = rw is (record {
     count = rw (append-nil, length-append) (omega (arith, h .count));
     run = refl;
@@ -107,20 +111,23 @@ module _ {log r : Log} {w notes content notes-left : List ℕ} (is : r ≡ noted
     laid-content = h .laid-content;
   })
 
+-- Whatever was given so far, a report more.
+abbrev Adds : Log → rules.Report → List ℕ → List ℕ → Log → List ℕ → List ℕ → Type 0
+Adds log report notes content r notes-left content-left =
+    (g : Given) (notes₀ content₀ : List ℕ) → Holds g log notes₀ content₀ notes content → Holds (adds g report) r notes₀ content₀ notes-left content-left
+
 -- a control block
-module _ {log r : Log} {bytes notes content notes-left content-left : List ℕ} {n : ℕ} (size : length bytes ≡ n)
-    (is : r ≡ record { noted = log .noted + 1; stored = log .stored + n; run = 0 })
-    (k : Wrote (5 * log .noted) (9 ∷ n ∷ 0 ∷ 0 ∷ 0 ∷ []) notes notes-left) (d : Wrote (log .stored) bytes content content-left) where
-  pub block-added : Adds log (rules.block bytes) notes content r notes-left content-left
-  unfolding adds
-  block-added g notes₀ content₀ h = rw (is, size) (record {
-    count = rw (append-nil, length-append) (omega (arith, h .count));
-    run = refl;
-    short = omega arith;
-    stored = rw (length-append, size, h .stored);
-    laid = rw append-nil (lays-more (notesIn g) (5 * log .noted) (h .laid) (h .count) k);
-    laid-content = lays-more (g .content) (log .stored) (h .laid-content) (h .stored) d;
-  })
+block-added : {log r : Log} {h notes content notes-left content-left : List ℕ} → Block-done log h notes content r notes-left content-left
+    → Adds log (rules.block h) notes content r notes-left content-left
+unfolding adds
+block-added {log} {h = bytes} d g notes₀ content₀ h = rw (d .0) (record {
+  count = rw (append-nil, length-append) (omega (arith, h .count));
+  run = refl;
+  short = omega arith;
+  stored = rw (length-append, h .stored);
+  laid = rw append-nil (lays-more (notesIn g) (5 * log .noted) (h .laid) (h .count) (d .1));
+  laid-content = lays-more (g .content) (log .stored) (h .laid-content) (h .stored) (d .2);
+})
 
 -- the note of some load bytes
 run-five : (n : ℕ) → 0 < n → runNote n ≡ 13 ∷ n ∷ 0 ∷ 0 ∷ 0 ∷ []
@@ -194,7 +201,7 @@ goes-no {log} g h off some less =
 -- one load byte
 module _ {log r : Log} {b : ℕ} {notes content notes-left content-left : List ℕ} (d : Wrote (log .stored) (b ∷ []) content content-left) where
   -- that joins the last note
-  pub load-joins : goesOn log ≡ true → r ≡ grownBy log 1 → Wrote (5 * (log .noted - 1)) (13 ∷ (log .run + 1) ∷ 0 ∷ 0 ∷ 0 ∷ []) notes notes-left
+  load-joins : goesOn log ≡ true → r ≡ grownBy log 1 → Wrote (5 * (log .noted - 1)) (13 ∷ (log .run + 1) ∷ 0 ∷ 0 ∷ 0 ∷ []) notes notes-left
       → Adds log (rules.loaded b) notes content r notes-left content-left
   unfolding adds
   load-joins on is k g notes₀ content₀ h =
@@ -204,7 +211,7 @@ module _ {log r : Log} {b : ℕ} {notes content notes-left content-left : List �
 
   -- that has a note of its own
   own-note : (g h : Given) → notesIn h ≡ notesIn g ++ (13 ∷ 1 ∷ 0 ∷ 0 ∷ 0 ∷ []) → h .run ≡ 1 → h .content ≡ g .content ++ (b ∷ [])
-      → r ≡ record { noted = log .noted + 1; stored = log .stored + 1; run = 1 } → Wrote (5 * log .noted) (13 ∷ 1 ∷ 0 ∷ 0 ∷ 0 ∷ []) notes notes-left
+      → r ≡ startedIn log → Wrote (5 * log .noted) (13 ∷ 1 ∷ 0 ∷ 0 ∷ 0 ∷ []) notes notes-left
       → (notes₀ content₀ : List ℕ) → Holds g log notes₀ content₀ notes content → Holds h r notes₀ content₀ notes-left content-left
   own-note g h e one c is k notes₀ content₀ held = rw is (record {
     count = rw (e, length-append) (omega (arith, held .count));
@@ -215,7 +222,7 @@ module _ {log r : Log} {b : ℕ} {notes content notes-left content-left : List �
     laid-content = rw c (lays-more (g .content) (log .stored) (held .laid-content) (held .stored) d);
   })
 
-  pub load-starts : goesOn log ≡ false → r ≡ record { noted = log .noted + 1; stored = log .stored + 1; run = 1 }
+  load-starts : goesOn log ≡ false → r ≡ startedIn log
       → Wrote (5 * log .noted) (13 ∷ 1 ∷ 0 ∷ 0 ∷ 0 ∷ []) notes notes-left → Adds log (rules.loaded b) notes content r notes-left content-left
   unfolding adds
   load-starts off is k g notes₀ content₀ h = go (eqb (g .run) 0) refl (ltb (g .run) longestRun) refl
@@ -245,18 +252,17 @@ adds-run (b ∷ w) g h =
 pub run-within : (log : Log) (raw : List ℕ) {n : ℕ} → n ≡ joins log raw → (n ≤ longestRun - log .run) × (n ≤ length raw)
 run-within log raw is = rw is (run-most isData (longestRun - log .run) raw)
 
-pub run-joined : {log r : Log} {raw notes content notes-left content-left : List ℕ} {n : ℕ} → n ≡ joins log raw → 0 < log .run → log .run ≤ longestRun
-    → r ≡ grownBy log n → Wrote (5 * (log .noted - 1)) (13 ∷ (log .run + n) ∷ 0 ∷ 0 ∷ 0 ∷ []) notes notes-left → Wrote (log .stored) (take n raw) content content-left
-    → Joined-done log raw notes content r notes-left content-left
-run-joined {log} {r} {raw} {n = n} is some most q k d =
-    let m = run-within log raw is in
+-- Load bytes that joined the last note are given one by one.
+pub run-holds : {log r : Log} {raw notes content notes-left content-left : List ℕ} → joinable log (length raw) ≡ true → Joined-done log raw notes content r notes-left content-left
+    → (g : Given) (notes₀ content₀ : List ℕ) → Holds g log notes₀ content₀ notes content
+    → Holds (addsAll g (map rules.loaded (take (joins log raw) raw))) r notes₀ content₀ notes-left content-left
+run-holds {log} {raw = raw} on d g notes₀ content₀ h =
+    let f = join-facts log (length raw) on in
+    let n = joins log raw in
+    let m = run-within log raw refl in
     let size : length (take n raw) ≡ n = length-take-le n raw (m .1) in
-    let fits : log .run + n ≤ longestRun = omega (arith, m .0) in
-    record {
-      grew = rw (q, is);
-      adds-all = λ g notes₀ content₀ h.
-          rw (q, ← is, adds-run (take n raw) g (omega (arith, size, fits, h .run)), size) (joined-more n size some fits k d g notes₀ content₀ h);
-    }
+    let fits : log .run + n ≤ longestRun = omega (arith, m .0, f .2) in
+    rw (d .grew, adds-run (take n raw) g (omega (arith, size, fits, h .run)), size) (joined-more n size (f .1) fits (d .note) (d .bytes) g notes₀ content₀ h)
 
 -- all bytes written
 pub put-all : (l : List ℕ) {out left : List ℕ} {i : ℕ} → length l ≤ i → i ≤ length l → Put (take i l) out left i → Put l out left (length l)
@@ -264,24 +270,44 @@ put-all l {out} {left} {i} all most p =
     let e : i ≡ length l = omega arith in
     rw e at (put-as (take-all i l all) p)
 
--- an answer that is not noted, and one with a note of its own
-module _ {log : Log} (own : List ℕ) {notes content : List ℕ} where
-  pub none-added : {a : Answer} (x : Answer) → a ≡ x → ((reply : List ℕ) (g : Given) → adds g (reportOf x reply own) ≡ g) → Added log a own notes content log notes content
-  none-added x e same reply g notes₀ content₀ h = rw (e, same reply g) h
+-- one load byte
+load-added : {log r : Log} {b : ℕ} {notes content notes-left content-left : List ℕ} → Loaded-done log b notes content r notes-left content-left
+    → Adds log (rules.loaded b) notes content r notes-left content-left
+load-added {log} {r} {b} {notes} {content} {notes-left} {content-left} d = go (goesOn log) refl
+  where
+    go : (t : Bool) → goesOn log ≡ t → Adds log (rules.loaded b) notes content r notes-left content-left
+    go true on = load-joins (d .byte) on (d .goes-on on .0) (d .goes-on on .1)
+    go false off = load-starts (d .byte) off (d .starts off .0) (d .starts off .1)
 
-  pub note-added : {a : Answer} {r : Log} {w notes-left : List ℕ} (x : Answer) → a ≡ x → ((reply : List ℕ) (g : Given) → adds g (reportOf x reply own) ≡ noted g w) → length w ≡ 5
-      → (r ≡ notedIn log) × Wrote (5 * log .noted) w notes notes-left → Added log a own notes content r notes-left content
-  note-added x e is five k reply g notes₀ content₀ h = rw (e, is reply g) (noted-more (k .0) (k .1) five g notes₀ content₀ h)
+note-added : {log r : Log} {w notes content notes-left content-left : List ℕ} → Noted w log notes content r notes-left content-left → length w ≡ 5
+    → (g : Given) (notes₀ content₀ : List ℕ) → Holds g log notes₀ content₀ notes content → Holds (noted g w) r notes₀ content₀ notes-left content-left
+note-added d five g notes₀ content₀ h = rw (d .2) (noted-more (d .0) (d .1) five g notes₀ content₀ h)
 
-  pub report-added : {a : Answer} {r : Log} {notes-left content-left : List ℕ} (x : Answer) {w : rules.Report} → a ≡ x → ((reply : List ℕ) → reportOf x reply own ≡ w)
-      → Adds log w notes content r notes-left content-left → Added log a own notes content r notes-left content-left
-  report-added x e is k reply g notes₀ content₀ h = rw (e, is reply) (k g notes₀ content₀ h)
+none-added : {log r : Log} {notes content notes-left content-left : List ℕ} → Unchanged log notes content r notes-left content-left
+    → (g : Given) (notes₀ content₀ : List ℕ) → Holds g log notes₀ content₀ notes content → Holds g r notes₀ content₀ notes-left content-left
+none-added d g notes₀ content₀ h = rw (d .0, d .1, d .2) h
+
+-- What a report does to counts and lent bytes that hold what was given so far: they hold it with that report.
+pub logs-hold : (report : rules.Report) {log r : Log} {notes content notes-left content-left : List ℕ} → Logs report log notes content r notes-left content-left
+    → Adds log report notes content r notes-left content-left
+unfolding adds
+logs-hold rules.needMore d = none-added d
+logs-hold (rules.character b) d = note-added d refl
+logs-hold (rules.reply s) d = none-added d
+logs-hold (rules.escapeState on) d = note-added d refl
+logs-hold (rules.event y x a) d = note-added d refl
+logs-hold (rules.address t b3 b2 b1 b0) d = note-added d refl
+logs-hold (rules.block h) d = block-added d
+logs-hold (rules.loaded b) d = load-added d
+logs-hold (rules.ended t) d = note-added d refl
+logs-hold (rules.error n t) d = none-added d
+logs-hold rules.restart d = none-added d
+logs-hold (rules.refusal n) d = none-added d
 
 -- the end of a load or save is noted by its number
-pub ended-note : (g : Given) (save : Bool) → adds g (rules.ended (transferFor save)) ≡ noted g (14 ∷ cond save 1 0 ∷ 0 ∷ 0 ∷ 0 ∷ [])
-unfolding adds
-ended-note g true = refl
-ended-note g false = refl
+pub ended-number : (save : Bool) → cond save 1 0 ≡ transferNumber (transferFor save)
+ended-number true = refl
+ended-number false = refl
 
 -- what the tests say of a control block and of load data
 pub block-counts : (log : Log) {a : Answer} (own : ℕ) {n : ℕ} → countable log a own ≡ true → a ≡ variant.Block n → (log .noted < mostCount) × (n ≤ own) × (n < 256) × (log .stored + n ≤ mostCount)
@@ -295,9 +321,6 @@ load-counts log {a} own {b} on e =
     (f .0, omega (arith, f .3))
 
 -- What `add` and `add_run` promise, by their test.
-not-both : {t : Bool} → t ≡ true → t ≡ false → ⊥
-not-both on off = let z : _≡_ {A = ℕ} 0 1 = cc in omega arith
-
 module _ {log r : Log} {a : Answer} {own notes content notes-left content-left : List ℕ} where
   pub add-counted : countable log a (length own) ≡ true → Added log a own notes content r notes-left content-left → Add-done log a own notes content r notes-left content-left
   add-counted on d = record { adds-it = λ _. d; beyond = λ off. absurd (not-both on off) }

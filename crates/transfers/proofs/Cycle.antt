@@ -26,9 +26,9 @@ use Rattle.transfers.specs.declared.End as code-end
 use Rattle.transfers.specs.declared.End.the-variants.{On, Halt}
 use Rattle.transfers.specs.declared.Walked.{Walked}
 use Rattle.transfers.specs.declared.Loads.{Loads}
-use Rattle.transfers.specs.Parts.{wentOf, haltedAt, goingAt, Ended-well, Gives, Body-done, Act-done, Load-done, isEnd}
+use Rattle.transfers.specs.Parts.{wentOf, haltedAt, goingAt, Ended-well, Logged, Gives, Body-done, Act-done, Load-done, isEnd}
 use Rattle.transfers.proofs.Walk as laws
-use Rattle.transfers.proofs.Parts.{gives-none, gives-then, gives-one}
+use Rattle.transfers.proofs.Parts.{logged-then, gives-none, gives-then, gives-one}
 
 -- The place behind a mark lies in the recording.
 pub at-mark : {s : List ℕ} {d m n : ℕ} (i : ℕ) {w : rules.Meaning} {log : Log} {notes content : List ℕ} {r : Walked} {own-left notes-left content-left : List ℕ} → unitAt s i ≡ units.mark m n
@@ -53,7 +53,7 @@ begun s d at m own {q = q} z e b =
 -- the action reader
 module _ {s : List ℕ} {d i : ℕ} {w : rules.Meaning} {own : List ℕ} {answer : Answer} {k : ℕ} {log : Log} {notes content : List ℕ} where
   pub act-halts : Began-halt s d i w own answer k → Act-done s d i w log notes content (haltedAt answer k log) own notes content
-  act-halts b = record { given = []; says = b .says; ends = b .ends; gives = λ n less. gives-none (omega (arith, b .far)); far = b .far; near = b .near }
+  act-halts b = record { given = []; says = b .says; ends = b .ends; logged = Logged.none; gives = λ n less. gives-none (omega (arith, b .far)); far = b .far; near = b .near }
 
   pub act-tells : {end : Log} {notes-left content-left : List ℕ} → length s ≤ mostCount → Began-told s d i w own answer k
       → Add-done log answer own notes content end notes-left content-left
@@ -62,6 +62,7 @@ module _ {s : List ℕ} {d i : ℕ} {w : rules.Meaning} {own : List ℕ} {answer
     given = reportOf answer [] own ∷ [];
     says = b .says;
     ends = tt;
+    logged = Logged.one a Logged.none;
     gives = λ n less. gives-one a (b .own-data) (omega (arith, b .far)) (omega (arith, b .far)) (omega (arith, b .near));
     far = omega (arith, b .far);
     near = b .near;
@@ -78,6 +79,7 @@ module _ {s : List ℕ} {d i : ℕ} {w : rules.Meaning} {own : List ℕ} {answer
         given = reportOf answer [] own ∷ y .given;
         says = b .says (y .given) v (subst (λ (m : ℕ). Body s (transferFor save) m k (y .given) v) (add-one d) (y .says));
         ends = y .ends;
+        logged = Logged.one a (y .logged);
         gives = λ n less. gives-then (gives-one a (omega (arith, b .own-data), omega (arith, b .own-data)) (omega (arith, b .far)) (omega (arith, b .far, b .own-data)) (omega (arith, b .near))) (y .gives);
         far = omega (arith, b .far, y .far);
         near = y .near;
@@ -87,6 +89,7 @@ module _ {s : List ℕ} {d i : ℕ} {w : rules.Meaning} {own : List ℕ} {answer
 pub record Walking (s : List ℕ) (save : Bool) (d from : ℕ) (notes₀ content₀ : List ℕ) (log₀ : Log) (notes content : List ℕ) (log : Log) (i : ℕ) : Type 0 where
   pub given : List rules.Report
   pub chain : (g : List rules.Report) (v : Went) → Body s (transferFor save) d i g v → Body s (transferFor save) d from (given ++ g) v
+  pub logged : Logged log₀ notes₀ content₀ given log notes content
   pub gives : Gives given log₀ from notes₀ content₀ log i notes content
   pub far : from ≤ i
   pub near : i ≤ length s
@@ -98,6 +101,7 @@ pub walk-starts : {s : List ℕ} {save : Bool} {d from : ℕ} {notes content : L
 walk-starts le = record {
   given = [];
   chain = λ g v b. b;
+  logged = Logged.none;
   gives = gives-none (omega arith);
   far = omega arith;
   near = le;
@@ -122,12 +126,13 @@ module _ {s : List ℕ} {save : Bool} {d from : ℕ} {notes₀ content₀ : List
   -- the body is over, or the reading ended
   over : {r : Walked} {own-left notes-left content-left : List ℕ} (g : List rules.Report)
       → Body s (transferFor save) d i g (wentOf (r .end) (r .at) own-left) → Ended-well (r .end) own-left
-      → Gives g log i notes content (r .log) (r .at) notes-left content-left → i ≤ r .at → r .at ≤ length s
+      → Logged log notes content g (r .log) notes-left content-left → Gives g log i notes content (r .log) (r .at) notes-left content-left → i ≤ r .at → r .at ≤ length s
       → Body-done s save d from log₀ notes₀ content₀ r own-left notes-left content-left
-  over {r} {own-left} g b e k f n = record {
+  over {r} {own-left} g b e w k f n = record {
     given = v .given ++ g;
     says = v .chain g (wentOf (r .end) (r .at) own-left) b;
     ends = e;
+    logged = logged-then (v .logged) w;
     gives = gives-then (v .gives) k;
     far = omega (arith, v .far);
     near = n;
@@ -136,12 +141,13 @@ module _ {s : List ℕ} {save : Bool} {d from : ℕ} {notes₀ content₀ : List
   -- the body goes on
   goes : {notes-left content-left : List ℕ} {end : Log} {k : ℕ} (g : List rules.Report)
       → ((h : List rules.Report) (x : Went) → Body s (transferFor save) d k h x → Body s (transferFor save) d i (g ++ h) x)
-      → Gives g log i notes content end k notes-left content-left → i ≤ k → k ≤ length s
+      → Logged log notes content g end notes-left content-left → Gives g log i notes content end k notes-left content-left → i ≤ k → k ≤ length s
       → length notes-left ≡ length notes → length content-left ≡ length content
       → Walking s save d from notes₀ content₀ log₀ notes-left content-left end k
-  goes g b k f n p q = record {
+  goes g b w k f n p q = record {
     given = v .given ++ g;
     chain = λ h x y. subst (λ (z : List rules.Report). Body s (transferFor save) d from z x) (sym (append-assoc (v .given) g h)) (v .chain (g ++ h) x (b h x y));
+    logged = logged-then (v .logged) w;
     gives = gives-then (v .gives) k;
     far = omega (arith, v .far);
     near = n;
@@ -151,14 +157,14 @@ module _ {s : List ℕ} {save : Bool} {d from : ℕ} {notes₀ content₀ : List
 
   pub walk-ran-out : {own : List ℕ} → unitAt s i ≡ units.gone
       → Body-done s save d from log₀ notes₀ content₀ (haltedAt variant.More (length s) log) own notes content
-  walk-ran-out u = over [] (laws.body-gone s d i (v .near) (transferFor save) u) ends-more (gives-none (v .near)) (v .near) (omega arith)
+  walk-ran-out u = over [] (laws.body-gone s d i (v .near) (transferFor save) u) ends-more Logged.none (gives-none (v .near)) (v .near) (omega arith)
 
   pub walk-saved : {b n : ℕ} {own : List ℕ} → unitAt s i ≡ units.datum b n → save ≡ true
       → Body-done s save d from log₀ notes₀ content₀ (haltedAt (variant.Refused 9) n log) own notes content
   walk-saved {b} {n} {own} u e =
       let k = data-near s i u in
       over [] (subst (λ (x : Bool). Body s (transferFor x) d i [] (wentOf (Halt (variant.Refused 9)) n own)) (sym e) (laws.body-saved s d i (v .near) u))
-      (ends-refused 9) (gives-none (omega arith)) (omega arith) (k .1)
+      (ends-refused 9) Logged.none (gives-none (omega arith)) (omega arith) (k .1)
 
   pub walk-loads : {b n : ℕ} {r : Loads} {notes-left content-left : List ℕ} → unitAt s i ≡ units.datum b n → save ≡ false
       → Load-done s b n log notes content r notes-left content-left
@@ -172,7 +178,7 @@ module _ {s : List ℕ} {save : Bool} {d from : ℕ} {notes₀ content₀ : List
       (laws.body-data s d i (v .near) u
       (laws.body-run s d n (l .more) (l .is) (l .plain)
       (subst (λ (m : ℕ). Body s rules.load d m h x) (l .at) (subst (λ (z : Bool). Body s (transferFor z) d (r .at) h x) e y)))))
-      (l .gives i (k .0)) (omega (arith, l .at)) (l .near) p q
+      (l .logged) (l .gives i (k .0)) (omega (arith, l .at)) (l .near) p q
 
   pub walk-ends : {m n : ℕ} (w : Meaning) {end : Log} {own notes-left content-left : List ℕ} → length s ≤ mostCount → unitAt s i ≡ units.mark m n
       → meaningFor w ≡ rules.meaningOf m → isEnd w ≡ true
@@ -180,7 +186,7 @@ module _ {s : List ℕ} {save : Bool} {d from : ℕ} {notes₀ content₀ : List
       → Body-done s save d from log₀ notes₀ content₀ (goingAt n end) own notes-left content-left
   walk-ends w most u is e a =
       let k = mark-near s i u in
-      over (rules.ended (transferFor save) ∷ []) (laws.body-end s d i (v .near) (transferFor save) u (sym is ∙ end-means w e)) tt
+      over (rules.ended (transferFor save) ∷ []) (laws.body-end s d i (v .near) (transferFor save) u (sym is ∙ end-means w e)) tt (Logged.one a Logged.none)
       (gives-one a (omega arith, omega arith) (omega arith) (omega arith) (omega arith)) (omega arith) (k .1)
 
   module _ {m n : ℕ} {r : Walked} {own-left notes-left content-left : List ℕ} (u : unitAt s i ≡ units.mark m n)
@@ -194,7 +200,7 @@ module _ {s : List ℕ} {save : Bool} {d from : ℕ} {notes₀ content₀ : List
         let k = mark-near s i u in
         goes (a .given)
         (λ h x y. laws.body-act s d i (v .near) (transferFor save) u (subst (λ (z : code-end.End). Act s d n (rules.meaningOf m) (a .given) (wentOf z (r .at) own-left)) e (a .says)) y)
-        (a .gives i (omega arith)) (omega (arith, a .far)) (a .near) p q
+        (a .logged) (a .gives i (omega arith)) (omega (arith, a .far)) (a .near) p q
 
     pub walk-halts : {answer : Answer} → r .end ≡ Halt answer → Body-done s save d from log₀ notes₀ content₀ r own-left notes-left content-left
     walk-halts {answer} e =
@@ -202,4 +208,4 @@ module _ {s : List ℕ} {save : Bool} {d from : ℕ} {notes₀ content₀ : List
         over (a .given)
         (subst (λ (z : code-end.End). Body s (transferFor save) d i (a .given) (wentOf z (r .at) own-left)) (sym e)
         (laws.body-halt s d i (v .near) (transferFor save) u (subst (λ (z : code-end.End). Act s d n (rules.meaningOf m) (a .given) (wentOf z (r .at) own-left)) e (a .says))))
-        (a .ends) (a .gives i (omega arith)) (omega (arith, a .far)) (a .near)
+        (a .ends) (a .logged) (a .gives i (omega arith)) (omega (arith, a .far)) (a .near)

@@ -1,9 +1,9 @@
 -- What an action and load data leave: notes and data one after the other.
 use Prim.Native.Nat.{ℕ, suc, _+_, _-_, _≤_, _<_}
 use native.Mathlib.Omega.{arith}
-use mathlib.Core.Path.{_≡_, refl, sym, ap, subst}
+use mathlib.Core.Path.{_≡_, refl, sym, ap, subst, _∙_}
 use mathlib.Core.Bool.{Bool, true, false}
-use mathlib.Core.List.{List, [], _∷_, _++_, map}
+use mathlib.Core.List.{List, [], _∷_, _++_, append-assoc, append-nil, map}
 use lib.ListN.{length, take, drop, length-take, length-drop}
 use lib.Seq.{length-take-le}
 use borrow.Author.Tests.{lt-ltb, le-leb}
@@ -16,10 +16,10 @@ use Rattle.link.specs.View.{reportOf}
 use Rattle.notes.specs.declared.Log.{Log}
 use Rattle.notes.specs.Notes.{Given, longestRun, adds, addsAll}
 use Rattle.notes.specs.Logs.{Holds, dataIn, mostCount, countable, Add-done, joins, joinable, Add-run-done}
-use Rattle.notes.proofs.Laws.{run-within}
+use Rattle.notes.proofs.Laws.{run-within, logs-hold, run-holds}
 use Rattle.notes.proofs.Counts.{contentIn, content-more, adds-append, notes-most}
 use Rattle.transfers.specs.declared.Loads.{Loads}
-use Rattle.transfers.specs.Parts.{Held, Gives, Load-done}
+use Rattle.transfers.specs.Parts.{Logged, Held, Gives, Load-done}
 
 -- reports given one after the other
 pub gives-none : {log : Log} {n m : ℕ} {notes content : List ℕ} → n ≤ m → Gives [] log n notes content log m notes content
@@ -38,6 +38,16 @@ pub gives-later : {g : List rules.Report} {log end : Log} {n m k : ℕ} {notes c
 gives-later le p = record {
   adds-them = λ G a b h. let w = p .adds-them G a b h in record { holds = w .holds; few = omega (arith, w .few); small = omega (arith, w .small) };
 }
+
+-- reports logged one after the other
+pub logged-then : {g h : List rules.Report} {log mid end : Log} {notes content notes-mid content-mid notes-left content-left : List ℕ}
+    → Logged log notes content g mid notes-mid content-mid → Logged mid notes-mid content-mid h end notes-left content-left
+    → Logged log notes content (g ++ h) end notes-left content-left
+logged-then Logged.none q = q
+logged-then (Logged.one a p) q = Logged.one a (logged-then p q)
+logged-then {h = h} {end = end} {notes-left = notes-left} {content-left} (Logged.run {log} {mid} {raw = raw} {notes} {content} {g = g} a p) q =
+    subst (λ (l : List rules.Report). Logged log notes content l end notes-left content-left) (sym (append-assoc (map rules.loaded (take (mid .run - log .run) raw)) g h))
+    (Logged.run a (logged-then p q))
 
 -- each report has one note at most
 noted-most : {G : Given} {log end : Log} {a b notes content notes-left content-left : List ℕ} (l : List rules.Report) → Holds G log a b notes content
@@ -70,7 +80,8 @@ module _ {log end : Log} {a : Answer} {own notes content notes-left content-left
     (own-data : (dataIn a ≤ length own) × (dataIn a < 256)) where
   adds-one : {G : Given} {n : ℕ} {p q : List ℕ} → n + 1 ≤ mostCount → n + dataIn a ≤ mostCount → Held G log n p q notes content
       → Holds (adds G (reportOf a [] own)) end p q notes-left content-left
-  adds-one {G} {n} {p} {q} m d h = k .adds-it (counts log a (length own) (omega (arith, h .few)) (own-data .0) (own-data .1) (omega (arith, h .small))) [] G p q (h .holds)
+  adds-one {G} {n} {p} {q} m d h =
+      logs-hold (reportOf a [] own) (k .adds-it (counts log a (length own) (omega (arith, h .few)) (own-data .0) (own-data .1) (omega (arith, h .small))) []) G p q (h .holds)
 
   pub gives-one : {n m : ℕ} → n < m → n + dataIn a ≤ m → m ≤ mostCount
       → Gives (reportOf a [] own ∷ []) log n notes content end m notes-left content-left
@@ -118,7 +129,7 @@ pub run-grows : {one all : Log} {raw notes content notes-left content-left : Lis
 run-grows {one} {all} {raw} k = go (joinable one (length raw)) refl
   where
     go : (t : Bool) → joinable one (length raw) ≡ t → one .run ≤ all .run
-    go true e = omega (arith, k .adds-it e .grew)
+    go true e = omega (arith, ap (λ (l : Log). l .run) (k .adds-it e .grew))
     go false e = omega (arith, ap (λ (l : Log). l .run) (k .beyond e .0))
 
 pub loads : (s : List ℕ) (b i : ℕ) {log one all : Log} {own notes content notes-mid content-mid notes-left content-left : List ℕ} → i ≤ length s
@@ -132,6 +143,12 @@ loads s b i {log} {one} {all} {own} {notes} {content} {notes-mid} {content-mid} 
     first : (G : Given) (n : ℕ) (p q : List ℕ) → n < i → Held G log n p q notes content → Holds (adds G (rules.loaded b)) one p q notes-mid content-mid
     first G n p q less h = adds-one k (some, omega arith) (omega arith) (omega arith) h
 
+    behind : (n : ℕ) → all .run - one .run ≡ n → Logged log notes content (rules.loaded b ∷ map rules.loaded (take n (drop i s))) all notes-left content-left
+    behind n e =
+        subst (λ (g : List rules.Report). Logged log notes content (rules.loaded b ∷ g) all notes-left content-left)
+        (append-nil (map rules.loaded (take (all .run - one .run) (drop i s))) ∙ ap (λ (m : ℕ). map rules.loaded (take m (drop i s))) e)
+        (Logged.one k (Logged.run j Logged.none))
+
     go : (t : Bool) → joinable one (length (drop i s)) ≡ t → Load-done s b i log notes content (loadsOf i one all) notes-left content-left
     go true e =
         let d = j .adds-it e in
@@ -139,13 +156,15 @@ loads s b i {log} {one} {all} {own} {notes} {content} {notes-mid} {content-mid} 
         let within = run-within one (drop i s) refl in
         let l = take n (drop i s) in
         let size : length l ≡ n = length-take-le n (drop i s) (within .1) in
-        let place : i + (all .run - one .run) ≡ i + length l = omega (arith, d .grew, size) in
+        let grew : all .run - one .run ≡ n = omega (arith, ap (λ (x : Log). x .run) (d .grew)) in
+        let place : i + (all .run - one .run) ≡ i + length l = omega (arith, size) in
         record {
           more = l;
           is = ap (λ (m : ℕ). take m (drop i s)) (sym size);
           plain = run-all isData (longestRun - one .run) (drop i s);
           at = place;
-          gives = rw place (gives-loads b l (λ G n p q less h. d .adds-all (adds G (rules.loaded b)) p q (first G n p q less h)));
+          gives = rw place (gives-loads b l (λ G n p q less h. run-holds e d (adds G (rules.loaded b)) p q (first G n p q less h)));
+          logged = behind n grew;
           near = omega (arith, place, size, within .1, length-drop i s);
         }
     go false e =
@@ -157,5 +176,6 @@ loads s b i {log} {one} {all} {own} {notes} {content} {notes-mid} {content-mid} 
           plain = none;
           at = place;
           gives = rw (place, same .0, same .1, same .2) (gives-loads b [] first);
+          logged = behind 0 (omega (arith, ap (λ (x : Log). x .run) (same .0)));
           near = omega (arith, place);
         }

@@ -32,7 +32,11 @@ loop-less : tie.Need-loop-less Inv-loop μ-loop
 loop-less c = search needs
 
 loop-again : tie.Need-loop-again Inv-loop μ-loop
-loop-again c = (search needs, put-next (now (c .before .before .before .args .bytes)) (c .before .loop-test .taken) (omega (arith, c .before .before .before .pre)) (c .before .before .loop .inv .1))
+loop-again c =
+    let s1 = c .before in
+    let s2 = s1 .before in
+    let s3 = s2 .before in
+    (search needs, put-next (now (s3 .args .bytes)) (s1 .loop-test .taken) (omega (arith, s3 .pre)) (s2 .loop .inv .1))
 
 same-length : tie.Need-same-length Inv-loop μ-loop
 same-length c = put-length (c .before .loop .inv .1)

@@ -24,7 +24,11 @@ same-length : tie.Need-same-length
 same-length c = search needs
 
 returns : tie.Need-returns
-returns c = wrote-part (c .before .before .before .before .before .before .before .before .args .at) (c .before .before .before .before .before .if1 .taken) (c .before .before .put-bytes .ensures)
+returns c =
+    let s1 = c .before .before in
+    let s2 = s1 .before .before .before in
+    let s3 = s2 .before .before .before in
+    wrote-part (s3 .args .at) (s2 .if1 .taken) (s1 .put-bytes .ensures)
 
 returns-2 : tie.Need-returns-2
 returns-2 c = wrote-none (c .before .before .before .before .args .at) (omega arith)

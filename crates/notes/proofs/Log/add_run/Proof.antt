@@ -18,7 +18,11 @@ same-length-2 : tie.Need-same-length-2
 same-length-2 c = search needs
 
 returns : tie.Need-returns
-returns c = run-counted (sym (c .before .before .before .before .before .before .before .before .joins .ensures) ∙ c .before .before .before .before .before .before .before .if1 .taken) (c .before .before .before .before .joined .ensures)
+returns c =
+    let s1 = c .before .before .before .before in
+    let s2 = s1 .before .before .before in
+    let s3 = s2 .before in
+    run-counted (sym (s3 .joins .ensures) ∙ s2 .if1 .taken) (s1 .joined .ensures)
 
 returns-2 : tie.Need-returns-2
 returns-2 c = run-beyond (sym (c .before .joins .ensures) ∙ c .if1 .left)

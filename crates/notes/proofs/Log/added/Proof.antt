@@ -2,12 +2,10 @@
 use borrow.Author.Needs.{needs}
 use Rattle.notes.proofs.Log.added.Statement.{statement}
 use Rattle.notes.proofs.Log.added.Tie as tie
-use mathlib.Core.Path.{refl}
+use mathlib.Core.Path.{refl, _∙_}
 use denote.Ref.{now}
 use lib.ListN.{length}
-use Rattle.link.specs.declared.Answer.the-variants as variant
-use Rattle.notes.specs.Notes.{adds}
-use Rattle.notes.proofs.Laws.{count-facts, block-counts, load-counts, none-added, note-added, report-added, ended-note}
+use Rattle.notes.proofs.Laws.{count-facts, block-counts, load-counts, ended-number}
 
 enum-told : tie.Need-enum-told
 enum-told c = search needs
@@ -16,7 +14,9 @@ enum-known-answer : tie.Need-enum-known-answer
 enum-known-answer c = search needs
 
 note-requires : tie.Need-note-requires
-note-requires c κs = (count-facts (c .before .before .before .before .before .before .before .args .self) (c .before .before .before .before .before .before .before .args .answer) (length (now (c .before .before .before .before .before .before .before .args .own))) (c .before .before .before .before .before .before .before .pre)) .0
+note-requires c κs =
+    let s = c .before .before .before .before .before .before .before in
+    (count-facts (s .args .self) (s .args .answer) (length (now (s .args .own))) (s .pre)) .0
 
 enum-told-2 : tie.Need-enum-told-2
 enum-told-2 c = search needs
@@ -28,13 +28,17 @@ flag-byte-requires : tie.Need-flag-byte-requires
 flag-byte-requires c κs = search needs
 
 note-requires-2 : tie.Need-note-requires-2
-note-requires-2 c κs = (count-facts (c .before .before .before .before .before .before .before .before .args .self) (c .before .before .before .before .before .before .before .before .args .answer) (length (now (c .before .before .before .before .before .before .before .before .args .own))) (c .before .before .before .before .before .before .before .before .pre)) .0
+note-requires-2 c κs =
+    let s = c .before .before .before .before .before .before .before .before in
+    (count-facts (s .args .self) (s .args .answer) (length (now (s .args .own))) (s .pre)) .0
 
 enum-known-answer-3 : tie.Need-enum-known-answer-3
 enum-known-answer-3 c = search needs
 
 note-requires-3 : tie.Need-note-requires-3
-note-requires-3 c κs = (count-facts (c .before .before .before .before .before .before .before .args .self) (c .before .before .before .before .before .before .before .args .answer) (length (now (c .before .before .before .before .before .before .before .args .own))) (c .before .before .before .before .before .before .before .pre)) .0
+note-requires-3 c κs =
+    let s = c .before .before .before .before .before .before .before in
+    (count-facts (s .args .self) (s .args .answer) (length (now (s .args .own))) (s .pre)) .0
 
 enum-known-answer-4 : tie.Need-enum-known-answer-4
 enum-known-answer-4 c = search needs
@@ -43,19 +47,27 @@ address-kind-requires : tie.Need-address-kind-requires
 address-kind-requires c κs = search needs
 
 note-requires-4 : tie.Need-note-requires-4
-note-requires-4 c κs = (count-facts (c .before .before .before .before .before .before .before .before .args .self) (c .before .before .before .before .before .before .before .before .args .answer) (length (now (c .before .before .before .before .before .before .before .before .args .own))) (c .before .before .before .before .before .before .before .before .pre)) .0
+note-requires-4 c κs =
+    let s = c .before .before .before .before .before .before .before .before in
+    (count-facts (s .args .self) (s .args .answer) (length (now (s .args .own))) (s .pre)) .0
 
 enum-known-answer-5 : tie.Need-enum-known-answer-5
 enum-known-answer-5 c = search needs
 
 block-requires : tie.Need-block-requires
-block-requires c κs = block-counts (c .before .before .before .before .before .before .before .before .args .self) (length (now (c .before .before .before .before .before .before .before .before .args .own))) (c .before .before .before .before .before .before .before .before .pre) (c .before .before .before .answer5 .given .1)
+block-requires c κs =
+    let s1 = c .before .before .before in
+    let s2 = s1 .before .before .before .before .before in
+    block-counts (s2 .args .self) (length (now (s2 .args .own))) (s2 .pre) (s1 .answer5 .given .1)
 
 enum-known-answer-6 : tie.Need-enum-known-answer-6
 enum-known-answer-6 c = search needs
 
 loaded-requires : tie.Need-loaded-requires
-loaded-requires c κs = load-counts (c .before .before .before .before .before .before .before .before .args .self) (length (now (c .before .before .before .before .before .before .before .before .args .own))) (c .before .before .before .before .before .before .before .before .pre) (c .before .before .before .answer6 .given .1)
+loaded-requires c κs =
+    let s1 = c .before .before .before in
+    let s2 = s1 .before .before .before .before .before in
+    load-counts (s2 .args .self) (length (now (s2 .args .own))) (s2 .pre) (s1 .answer6 .given .1)
 
 enum-known-answer-7 : tie.Need-enum-known-answer-7
 enum-known-answer-7 c = search needs
@@ -64,7 +76,9 @@ flag-byte-requires-2 : tie.Need-flag-byte-requires-2
 flag-byte-requires-2 c κs = search needs
 
 note-requires-5 : tie.Need-note-requires-5
-note-requires-5 c κs = (count-facts (c .before .before .before .before .before .before .before .before .args .self) (c .before .before .before .before .before .before .before .before .args .answer) (length (now (c .before .before .before .before .before .before .before .before .args .own))) (c .before .before .before .before .before .before .before .before .pre)) .0
+note-requires-5 c κs =
+    let s = c .before .before .before .before .before .before .before .before in
+    (count-facts (s .args .self) (s .args .answer) (length (now (s .args .own))) (s .pre)) .0
 
 enum-told-3 : tie.Need-enum-told-3
 enum-told-3 c = search needs
@@ -76,40 +90,48 @@ enum-told-5 : tie.Need-enum-told-5
 enum-told-5 c = search needs
 
 returns : tie.Need-returns
-unfolding adds
-returns c = none-added (now (c .before .before .before .before .before .args .own)) variant.More (c .enum-told .given .1) (λ reply g. refl)
+returns c = λ reply. rw (c .enum-told .given .1) (refl, refl, refl)
 
 same-length : tie.Need-same-length
 same-length c = search needs
 
 returns-2 : tie.Need-returns-2
-unfolding adds
-returns-2 c = note-added (now (c .before .before .before .before .before .before .before .before .before .before .args .own)) (variant.Character _) (c .before .before .before .before .before .answer .given .1) (λ reply g. refl) refl (c .before .before .note .ensures)
+returns-2 c =
+    let s1 = c .before .before in
+    let s2 = s1 .before .before .before in
+    λ reply. rw (s2 .answer .given .1) ((s1 .note .ensures .0, s1 .note .ensures .1, refl))
 
 returns-3 : tie.Need-returns-3
-unfolding adds
-returns-3 c = none-added (now (c .before .before .before .before .before .args .own)) (variant.Reply _) (c .enum-told2 .given .1) (λ reply g. refl)
+returns-3 c = λ reply. rw (c .enum-told2 .given .1) (refl, refl, refl)
 
 same-length-2 : tie.Need-same-length-2
 same-length-2 c = search needs
 
 returns-4 : tie.Need-returns-4
-unfolding adds
-returns-4 c = note-added (now (c .before .before .before .before .before .before .before .before .before .before .before .args .own)) (variant.EscapeState _) (c .before .before .before .before .before .before .answer2 .given .1) (λ reply g. rw (c .before .before .before .before .flag-byte .ensures)) refl (c .before .before .note2 .ensures)
+returns-4 c =
+    let s1 = c .before .before in
+    let s2 = s1 .before .before in
+    let s3 = s2 .before .before in
+    λ reply. rw (s3 .answer2 .given .1) ((s1 .note2 .ensures .0, rw (s2 .flag-byte .ensures) at (s1 .note2 .ensures .1), refl))
 
 same-length-3 : tie.Need-same-length-3
 same-length-3 c = search needs
 
 returns-5 : tie.Need-returns-5
-unfolding adds
-returns-5 c = note-added (now (c .before .before .before .before .before .before .before .before .before .before .args .own)) (variant.Event _ _ _) (c .before .before .before .before .before .answer3 .given .1) (λ reply g. refl) refl (c .before .before .note3 .ensures)
+returns-5 c =
+    let s1 = c .before .before in
+    let s2 = s1 .before .before .before in
+    λ reply. rw (s2 .answer3 .given .1) ((s1 .note3 .ensures .0, s1 .note3 .ensures .1, refl))
 
 same-length-4 : tie.Need-same-length-4
 same-length-4 c = search needs
 
 returns-6 : tie.Need-returns-6
-unfolding adds
-returns-6 c = note-added (now (c .before .before .before .before .before .before .before .before .before .before .before .args .own)) (variant.Address _ _ _ _ _) (c .before .before .before .before .before .before .answer4 .given .1) (λ reply g. rw (c .before .before .before .before .address-kind .ensures)) refl (c .before .before .note4 .ensures)
+returns-6 c =
+    let s1 = c .before .before in
+    let s2 = s1 .before .before in
+    let s3 = s2 .before .before in
+    λ reply. rw (s3 .answer4 .given .1) ((s1 .note4 .ensures .0, rw (s2 .address-kind .ensures) at (s1 .note4 .ensures .1), refl))
 
 same-length-5 : tie.Need-same-length-5
 same-length-5 c = search needs
@@ -118,8 +140,10 @@ same-length-6 : tie.Need-same-length-6
 same-length-6 c = search needs
 
 returns-7 : tie.Need-returns-7
-unfolding adds
-returns-7 c = report-added (now (c .before .before .before .before .before .before .before .before .before .before .before .before .before .args .own)) (variant.Block _) (c .before .before .before .before .before .before .before .before .answer5 .given .1) (λ reply. refl) (c .before .before .before .before .block .ensures)
+returns-7 c =
+    let s1 = c .before .before .before .before in
+    let s2 = s1 .before .before .before .before in
+    λ reply. rw (s2 .answer5 .given .1) (s1 .block .ensures)
 
 same-length-7 : tie.Need-same-length-7
 same-length-7 c = search needs
@@ -128,27 +152,30 @@ same-length-8 : tie.Need-same-length-8
 same-length-8 c = search needs
 
 returns-8 : tie.Need-returns-8
-unfolding adds
-returns-8 c = report-added (now (c .before .before .before .before .before .before .before .before .before .before .before .before .before .args .own)) (variant.Loaded _) (c .before .before .before .before .before .before .before .before .answer6 .given .1) (λ reply. refl) (c .before .before .before .before .loaded .ensures)
+returns-8 c =
+    let s1 = c .before .before .before .before in
+    let s2 = s1 .before .before .before .before in
+    λ reply. rw (s2 .answer6 .given .1) (s1 .loaded .ensures)
 
 same-length-9 : tie.Need-same-length-9
 same-length-9 c = search needs
 
 returns-9 : tie.Need-returns-9
-unfolding adds
-returns-9 c = note-added (now (c .before .before .before .before .before .before .before .before .before .before .before .args .own)) (variant.Ended _) (c .before .before .before .before .before .before .answer7 .given .1) (λ reply g. rw (c .before .before .before .before .flag-byte2 .ensures) (ended-note g (c .before .before .before .before .before .before .answer7 .given .0 .0))) refl (c .before .before .note5 .ensures)
+returns-9 c =
+    let s1 = c .before .before in
+    let s2 = s1 .before .before in
+    let s3 = s2 .before .before in
+    λ reply. rw (s3 .answer7 .given .1)
+    ((s1 .note5 .ensures .0, rw (s2 .flag-byte2 .ensures ∙ ended-number (s3 .answer7 .given .0 .0)) at (s1 .note5 .ensures .1), refl))
 
 returns-10 : tie.Need-returns-10
-unfolding adds
-returns-10 c = none-added (now (c .before .before .before .before .before .args .own)) (variant.Error _ _) (c .enum-told3 .given .1) (λ reply g. refl)
+returns-10 c = λ reply. rw (c .enum-told3 .given .1) (refl, refl, refl)
 
 returns-11 : tie.Need-returns-11
-unfolding adds
-returns-11 c = none-added (now (c .before .before .before .before .before .args .own)) variant.Restart (c .enum-told4 .given .1) (λ reply g. refl)
+returns-11 c = λ reply. rw (c .enum-told4 .given .1) (refl, refl, refl)
 
 returns-12 : tie.Need-returns-12
-unfolding adds
-returns-12 c = none-added (now (c .before .before .before .before .before .args .own)) (variant.Refused _) (c .enum-told5 .given .1) (λ reply g. refl)
+returns-12 c = λ reply. rw (c .enum-told5 .given .1) (refl, refl, refl)
 
 pub added-spec : {M : Type 1} → statement M
 added-spec =

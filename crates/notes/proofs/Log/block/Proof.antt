@@ -5,7 +5,6 @@ use Rattle.notes.proofs.Log.block.Tie as tie
 use mathlib.Core.Path.{refl, sym}
 use denote.Ref.{now}
 use lib.Seq.{length-take-le}
-use Rattle.notes.proofs.Laws.{block-added}
 
 cast-put-note : tie.Need-cast-put-note
 cast-put-note c = search needs
@@ -14,7 +13,9 @@ put-note-requires : tie.Need-put-note-requires
 put-note-requires c κs = search needs
 
 slice-aggregate-put-data : tie.Need-slice-aggregate-put-data
-slice-aggregate-put-data c = sym (length-take-le (c .before .before .before .before .before .before .before .before .args .n) (now (c .before .before .before .before .before .before .before .before .args .own)) (c .before .before .before .before .before .before .before .before .pre .1))
+slice-aggregate-put-data c =
+    let s = c .before .before .before .before .before .before .before .before in
+    sym (length-take-le (s .args .n) (now (s .args .own)) (s .pre .1))
 
 put-data-requires : tie.Need-put-data-requires
 put-data-requires c κs = search needs
@@ -32,7 +33,12 @@ same-length-2 : tie.Need-same-length-2
 same-length-2 c = search needs
 
 returns : tie.Need-returns
-returns c = block-added (length-take-le (c .before .before .before .before .before .before .before .before .before .before .before .before .before .before .args .n) (now (c .before .before .before .before .before .before .before .before .before .before .before .before .before .before .args .own)) (c .before .before .before .before .before .before .before .before .before .before .before .before .before .before .pre .1)) refl (c .before .before .before .before .before .before .before .before .before .put-note .ensures) (c .before .before .before .before .put-data .ensures)
+returns c =
+    let s1 = c .before .before .before .before in
+    let s2 = s1 .before .before .before .before .before in
+    let s3 = s2 .before .before .before .before .before in
+    let size = length-take-le (s3 .args .n) (now (s3 .args .own)) (s3 .pre .1) in
+    (rw size refl, rw size (s2 .put-note .ensures), s1 .put-data .ensures)
 
 pub block-spec : {M : Type 1} → statement M
 block-spec =

@@ -13,11 +13,20 @@ sub-result c = search needs
 
 returns : tie.Need-returns
 unfolding countable
-returns c = rw (lt-ltb _ _ (c .before .before .before .if1 .taken), ← c .before .before .before .before .before .data-in .ensures, le-leb _ _ (c .before .before .if2 .taken), lt-ltb _ _ (c .before .if3 .taken))
+returns c =
+    let s1 = c .before in
+    let s2 = s1 .before in
+    let s3 = s2 .before in
+    let s4 = s3 .before .before in
+    rw (lt-ltb _ _ (s3 .if1 .taken), ← s4 .data-in .ensures, le-leb _ _ (s2 .if2 .taken), lt-ltb _ _ (s1 .if3 .taken))
 
 returns-2 : tie.Need-returns-2
 unfolding countable
-returns-2 c = rw (lt-ltb _ _ (c .before .before .if1 .taken), ← c .before .before .before .before .data-in .ensures, le-leb _ _ (c .before .if2 .taken), le-ltb _ _ (c .if3 .left))
+returns-2 c =
+    let s1 = c .before in
+    let s2 = s1 .before in
+    let s3 = s2 .before .before in
+    rw (lt-ltb _ _ (s2 .if1 .taken), ← s3 .data-in .ensures, le-leb _ _ (s1 .if2 .taken), le-ltb _ _ (c .if3 .left))
 
 returns-3 : tie.Need-returns-3
 unfolding countable

@@ -5,24 +5,33 @@ use Rattle.notes.proofs.Log.joined.Tie as tie
 use native.Mathlib.Omega.{arith}
 use denote.Ref.{now}
 use lib.ListN.{length}
-use Rattle.notes.proofs.Laws.{join-facts, run-within, run-joined}
+use Rattle.notes.proofs.Laws.{join-facts, run-within}
 use mathlib.Core.Path.{sym}
 use lib.Seq.{length-take-le}
 
 sub-left : tie.Need-sub-left
-sub-left c = omega (arith, join-facts (c .before .before .before .before .args .self) (length (now (c .before .before .before .before .args .raw))) (c .before .before .before .before .pre) .2)
+sub-left c =
+    let s = c .before .before .before .before in
+    omega (arith, join-facts (s .args .self) (length (now (s .args .raw))) (s .pre) .2)
 
 data-ahead-requires : tie.Need-data-ahead-requires
 data-ahead-requires c κs = search needs
 
 slice-aggregate-put-data : tie.Need-slice-aggregate-put-data
-slice-aggregate-put-data c = sym (length-take-le _ (now (c .before .before .before .before .before .before .args .raw)) ((run-within (c .before .before .before .before .before .before .args .self) (now (c .before .before .before .before .before .before .args .raw)) (c .before .data-ahead .ensures)) .1))
+slice-aggregate-put-data c =
+    let s1 = c .before in
+    let s2 = s1 .before .before .before .before .before in
+    sym (length-take-le _ (now (s2 .args .raw)) ((run-within (s2 .args .self) (now (s2 .args .raw)) (s1 .data-ahead .ensures)) .1))
 
 put-data-requires : tie.Need-put-data-requires
 put-data-requires c κs = search needs
 
 grown-requires : tie.Need-grown-requires
-grown-requires c κs = let f = join-facts (c .before .before .before .before .before .before .before .before .before .before .before .args .self) (length (now (c .before .before .before .before .before .before .before .before .before .before .before .args .raw))) (c .before .before .before .before .before .before .before .before .before .before .before .pre) in let w = run-within (c .before .before .before .before .before .before .before .before .before .before .before .args .self) (now (c .before .before .before .before .before .before .before .before .before .before .before .args .raw)) (c .before .before .before .before .before .before .data-ahead .ensures) in (f .0, omega (arith, w .0, f .2), omega (arith, w .1, f .3))
+grown-requires c κs =
+    let s1 = c .before .before .before .before .before .before in
+    let s2 = s1 .before .before .before .before .before in
+    let f = join-facts (s2 .args .self) (length (now (s2 .args .raw))) (s2 .pre) in let w = run-within (s2 .args .self) (now (s2 .args .raw))
+    (s1 .data-ahead .ensures) in (f .0, omega (arith, w .0, f .2), omega (arith, w .1, f .3))
 
 same-length : tie.Need-same-length
 same-length c = search needs
@@ -31,7 +40,12 @@ same-length-2 : tie.Need-same-length-2
 same-length-2 c = search needs
 
 returns : tie.Need-returns
-returns c = let f = join-facts (c .before .before .before .before .before .before .before .before .before .before .before .before .before .before .args .self) (length (now (c .before .before .before .before .before .before .before .before .before .before .before .before .before .before .args .raw))) (c .before .before .before .before .before .before .before .before .before .before .before .before .before .before .pre) in run-joined (c .before .before .before .before .before .before .before .before .before .data-ahead .ensures) (f .1) (omega (arith, f .2)) (c .before .before .grown .ensures .0) (c .before .before .grown .ensures .1) (c .before .before .before .before .before .before .put-data .ensures)
+returns c =
+    let s1 = c .before .before in
+    let s2 = s1 .before .before .before .before in
+    let s3 = s2 .before .before .before in
+    let is = s3 .data-ahead .ensures in
+    record { grew = rw (← is) (s1 .grown .ensures .0); note = rw (← is) (s1 .grown .ensures .1); bytes = rw (← is) (s2 .put-data .ensures) }
 
 pub joined-spec : {M : Type 1} → statement M
 joined-spec =
