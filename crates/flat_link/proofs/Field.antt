@@ -21,11 +21,12 @@ use Rattle.link.proofs.Steps.{at-data, data-outside, reply-more, reply-ended}
 use Rattle.link_loop.specs.Parts.{midReply}
 use Rattle.link_loop.proofs.Plains.{mid-usable}
 use Rattle.flat_kind.specs.Kinds.{kindAt}
-use Rattle.flat_link.specs.declared.FlatLink.{FlatLink}
+use Rattle.link_record.specs.declared.FlatLink.{FlatLink}
 use Rattle.flat_link.specs.declared.FlatTold.{FlatTold}
-use Rattle.flat_link.specs.Links.{linkOf, tagsOk, flatOf, toldWith, Flat-step-done}
+use Rattle.link_record.specs.Records.{linkOf, tagsOk, flatOf}
+use Rattle.flat_link.specs.Links.{toldWith, Flat-step-done}
 use Rattle.flat_link.specs.Field.{Reply-byte, shapeIn, turnIn, placedNext, placedIdle}
-use Rattle.flat_link.proofs.Conversions.{flat-back}
+use Rattle.link_record.proofs.Conversions.{flat-back}
 use Rattle.flat_link.proofs.Links.{step-known}
 
 -- a turn that is no refusal is one of a record within its limits

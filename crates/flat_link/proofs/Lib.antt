@@ -1,4 +1,3 @@
-pub mod Conversions
 pub mod Links
 pub mod Field
 pub mod Streams

@@ -14,14 +14,15 @@ use Rattle.link.specs.declared.Started.{Started}
 use Rattle.link_loop.specs.declared.Ran.{Ran}
 use Rattle.link.specs.View.{begunOf, Begin-done, Begin-none-done, Step-done}
 use Rattle.link_loop.specs.Run.{Run-done}
-use Rattle.flat_link.specs.declared.FlatLink.{FlatLink}
+use Rattle.link_record.specs.declared.FlatLink.{FlatLink}
 use Rattle.flat_link.specs.declared.FlatTold.{FlatTold}
 use Rattle.flat_link.specs.declared.FlatRan.{FlatRan}
 use Rattle.flat_link.specs.declared.FlatBegun.{FlatBegun}
 use Rattle.flat_kind.specs.Kinds.{kindAt, lastCall}
-use Rattle.flat_link.specs.Links.{linkOf, tagsOk, flatOf, flatTold, Flat-step-done, flatBegun, flatStarted, Flat-begin-done}
+use Rattle.link_record.specs.Records.{linkOf, tagsOk, flatOf}
+use Rattle.flat_link.specs.Links.{flatTold, Flat-step-done, flatBegun, flatStarted, Flat-begin-done}
 use Rattle.flat_link.specs.Runs.{flatRan, flatUnknown, Flat-run-done}
-use Rattle.flat_link.proofs.Conversions.{flat-back}
+use Rattle.link_record.proofs.Conversions.{flat-back}
 
 not-both : {t : Bool} → t ≡ true → t ≡ false → ⊥
 not-both on off = let z : _≡_ {A = ℕ} 0 1 = cc in omega arith

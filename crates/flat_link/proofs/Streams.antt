@@ -20,11 +20,12 @@ use Rattle.serial_rules.proofs.Shapes.{choice}
 use Rattle.link.specs.declared.Answer.the-variants as variant
 use Rattle.link_loop.specs.Run.{Runs}
 use Rattle.link_loop.specs.Run as runs
-use Rattle.flat_link.specs.declared.FlatLink.{FlatLink}
+use Rattle.link_record.specs.declared.FlatLink.{FlatLink}
 use Rattle.flat_link.specs.declared.FlatTold.{FlatTold}
-use Rattle.flat_link.specs.Links.{linkOf, tagsOk, flatOf, flatTold, Flat-step-done}
+use Rattle.link_record.specs.Records.{linkOf, tagsOk, flatOf}
+use Rattle.flat_link.specs.Links.{flatTold, Flat-step-done}
 use Rattle.flat_link.specs.Streams.{FlatRuns, stop, took}
-use Rattle.flat_link.proofs.Conversions.{Ranged-doing, Ranged, link-back, tags-back, link-ranged}
+use Rattle.link_record.proofs.Conversions.{Ranged-doing, Ranged, link-back, tags-back, link-ranged}
 
 link-is : (f : FlatLink) (a : Answer) → flatTold f a .link ≡ f
 link-is f variant.More = refl

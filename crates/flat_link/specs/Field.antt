@@ -9,7 +9,7 @@ use Rattle.serial_rules.specs.Body.{Turn, refused}
 use Rattle.serial_rules.specs.Reply.{Shape, shapeOf, shapeTurn, longest}
 use Rattle.kind.specs.Kinds.{kindFor}
 use Rattle.flat_kind.specs.Kinds.{kindAt}
-use Rattle.flat_link.specs.declared.FlatLink.{FlatLink}
+use Rattle.link_record.specs.declared.FlatLink.{FlatLink}
 
 -- a call waits and nothing else is under way: no action, no escape, not stopped; and the byte is not the escape
 pub record Reply-byte (f : FlatLink) (raw : ℕ) : Type 0 where

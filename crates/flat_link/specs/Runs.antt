@@ -8,10 +8,11 @@ use lib.ListN.{length}
 use Rattle.link.specs.declared.Answer.the-variants as variant
 use Rattle.link_loop.specs.declared.Ran.{Ran}
 use Rattle.link_loop.specs.Run.{lacksRoom, Run-done}
-use Rattle.flat_link.specs.declared.FlatLink.{FlatLink}
+use Rattle.link_record.specs.declared.FlatLink.{FlatLink}
 use Rattle.flat_link.specs.declared.FlatTold.{FlatTold}
 use Rattle.flat_link.specs.declared.FlatRan.{FlatRan}
-use Rattle.flat_link.specs.Links.{linkOf, tagsOk, flatOf, flatTold}
+use Rattle.link_record.specs.Records.{linkOf, tagsOk, flatOf}
+use Rattle.flat_link.specs.Links.{flatTold}
 
 -- the flat result of the loop, beside the record given
 abbrev pub flatRan : FlatLink → Ran → FlatRan

@@ -5,9 +5,10 @@ use mathlib.Core.Bool.{true}
 use mathlib.Core.List.{List, [], _∷_}
 use Rattle.serial_rules.specs.Link as rules
 use Rattle.link.specs.View.{reportOf}
-use Rattle.flat_link.specs.declared.FlatLink.{FlatLink}
+use Rattle.link_record.specs.declared.FlatLink.{FlatLink}
 use Rattle.flat_link.specs.declared.FlatTold.{FlatTold}
-use Rattle.flat_link.specs.Links.{tagsOk, Flat-step-done}
+use Rattle.link_record.specs.Records.{tagsOk}
+use Rattle.flat_link.specs.Links.{Flat-step-done}
 
 -- from a record in range and its lent bytes, over raw bytes, with the results and what they report, to the record and the lent bytes left
 pub data FlatRuns : FlatLink → List ℕ → List ℕ → List ℕ → List FlatTold → List rules.Report → FlatLink → List ℕ → List ℕ → Type 0 where

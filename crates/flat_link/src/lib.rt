@@ -1,42 +1,24 @@
-// The link as a flat record: numbers for its enums and bools, with total conversions, so that it can cross to C.
+// What is done with a link, over its flat record: a call begun, one raw byte, raw bytes in a loop, each with a flat result, so that it can cross to C.
 ghost use Prim.Native.Nat.{_<_};
 ghost use mathlib.Core.Path.{_≡_};
 ghost use mathlib.Core.Bool.{true};
 ghost use Rattle.kind.specs.Kinds.{replyLent};
 ghost use Rattle.link.specs.View.{begunOf};
-ghost use Rattle.flat_link.specs.Links.{waitAt, doingAt, linkOf, tagsOk, freshLink, waitNumber, waitOut, doingNumber, flagsNumber, flatOf, toldWith, flatTold, flatBegun, flatStarted, Flat-begin-done, Flat-step-done};
+ghost use Rattle.flat_link.specs.Links.{toldWith, flatTold, flatBegun, flatStarted, Flat-begin-done, Flat-step-done};
 ghost use Rattle.flat_link.specs.Runs.{flatRan, flatUnknown, ranWith, Flat-run-done};
 ghost use Rattle.flat_link.specs.Field.{Reply-byte, turnIn, placedNext, placedIdle};
 ghost use Rattle.serial_rules.specs.Body.{refused};
 ghost use Rattle.turns.specs.Turns.{turnOf};
-use actions::Action;
-use actions::Target;
 use escape::Piece;
 use flat_kind::FlatKind;
 use kind::CallKind;
 use link::Answer;
 use link::Begun;
-use link::Doing;
 use link::Link;
 use link::Started;
-use link::Wait;
 use link_loop::Ran;
+use link_record::FlatLink;
 use turns::Turn;
-
-// A link. `got` bytes of the reply and `held` bytes of the open action came so far. `wait` is 0 where the link is idle, else one more than the
-// number of the call that waits, OSWORD with its `out_length`; `action` is 0 where none is open, 1 for an error, 2 for an event, 3 for an
-// address, 4 for execute, 5 for a load, 6 for a save, 128 + n for a control block of n bytes; `flags` is a sum: 1 where an escape was seen, 2 where
-// the link is stopped, and 4 times the number of the open transfers. A record with `wait` above 13, `action` from 7 to 128 or `flags` above 123
-// counts as stopped. It has eight bytes, so that it crosses to C in one register.
-#[repr(C)]
-pub struct FlatLink {
-    pub got: u16,
-    pub held: u16,
-    pub wait: u8,
-    pub out_length: u8,
-    pub action: u8,
-    pub flags: u8,
-}
 
 // What a raw byte gives: kind 0 needs more; 1 is a character (first); 2 the Escape state (first, 0 or 1); 3 an event (Y, X, A); 4 an address
 // (first to fourth, high byte first); 5 a finished reply (length); 6 an error (first is its number, length that of its text, which stands in the
@@ -71,26 +53,12 @@ pub struct FlatRan {
     pub stored: usize,
 }
 
-// A fresh link; it is also what resets a stopped one.
-pub fn fresh() -> FlatLink
-    ensures { λ r. ⌜ r ≡ freshLink ⌝ }
-{
-    FlatLink {
-        got: 0,
-        held: 0,
-        wait: 0,
-        out_length: 0,
-        action: 0,
-        flags: 0,
-    }
-}
-
 // Begins a call: see `link::Link::begin`. A number above the last call's is a call that is not carried: see `link::Link::begin_none`.
 pub fn begin(link: FlatLink, call: u8, out_length: u8) -> FlatBegun
     ensures { λ r. ⌜ Flat-begin-done link call «out_length» r ⌝ }
 {
-    if has_tags(link) {
-        let at = unflattened(link);
+    if link_record::has_tags(link) {
+        let at = link_record::unflattened(link);
         if call <= FlatKind::LAST {
             return flat_started(link, at.begin(flat_kind::kind_at(call, out_length)));
         }
@@ -151,11 +119,11 @@ fn step_unflattened(
 ) -> FlatTold
     ensures { λ r. ⌜ Flat-step-done link (now (reply .entry)) (now (own .entry)) raw r (now (reply .exit)) (now (own .exit)) ⌝ }
 {
-    if has_tags(link) {
-        let stepped = unflattened(link).step(raw, reply, own);
+    if link_record::has_tags(link) {
+        let stepped = link_record::unflattened(link).step(raw, reply, own);
         let answer = stepped.answer;
         let next = stepped.link;
-        return flat_told(flattened(link, next), answer);
+        return flat_told(link_record::flattened(link, next), answer);
     }
     flat_told(link, Answer::Refused(7))
 }
@@ -234,10 +202,17 @@ pub fn run(
 ) -> FlatRan
     ensures { λ r. ⌜ Flat-run-done link (now (reply .entry)) (now (own .entry)) (now (raw .entry)) (now (room .entry)) (now (content .entry)) r (now (reply .exit)) (now (own .exit)) (now (room .exit)) (now (content .exit)) ⌝ }
 {
-    if has_tags(link) {
+    if link_record::has_tags(link) {
         return flat_ran(
             link,
-            link_loop::run(unflattened(link), raw, reply, own, room, content),
+            link_loop::run(
+                link_record::unflattened(link),
+                raw,
+                reply,
+                own,
+                room,
+                content,
+            ),
         );
     }
     unknown(link, raw.len(), room.len(), content.len())
@@ -250,7 +225,7 @@ fn flat_ran(given: FlatLink, ran: Ran) -> FlatRan
     let answer = ran.answer;
     let next = ran.link;
     FlatRan {
-        told: flat_told(flattened(given, next), answer),
+        told: flat_told(link_record::flattened(given, next), answer),
         used: ran.used,
         noted: ran.noted,
         stored: ran.stored,
@@ -344,7 +319,7 @@ fn flat_started(given: FlatLink, started: Started) -> FlatBegun
 {
     let answer = started.answer;
     let next = started.link;
-    flat_begun(flattened(given, next), answer)
+    flat_begun(link_record::flattened(given, next), answer)
 }
 
 fn flat_begun(link: FlatLink, begun: Begun) -> FlatBegun
@@ -367,126 +342,4 @@ fn flat_begun(link: FlatLink, begun: Begun) -> FlatBegun
             answer: n,
         },
     }
-}
-
-// Whether the numbers of what waits, of the action and of the flags are in range.
-fn has_tags(link: FlatLink) -> bool
-    ensures { λ r. ⌜ r ≡ tagsOk link ⌝ }
-{
-    if 13 < link.wait {
-        return false;
-    }
-    if 123 < link.flags {
-        return false;
-    }
-    if link.action <= 6 {
-        return true;
-    }
-    129 <= link.action
-}
-
-// The link of a flat record, and its parts by number.
-fn unflattened(link: FlatLink) -> Link
-    ensures { λ r. ⌜ r ≡ linkOf link ⌝ }
-{
-    Link {
-        wait: wait_at(link.wait, link.out_length),
-        got: link.got,
-        escape: link.flags % 2 == 1,
-        doing: doing_at(link.action),
-        held: link.held,
-        nested: link.flags / 4,
-        stopped: link.flags / 2 % 2 == 1,
-    }
-}
-
-fn wait_at(n: u8, out_length: u8) -> Wait
-    ensures { λ r. ⌜ r ≡ waitAt n «out_length» ⌝ }
-{
-    if n == 0 {
-        return Wait::Idle;
-    }
-    Wait::Waiting(flat_kind::kind_at(n - 1, out_length))
-}
-
-fn doing_at(n: u8) -> Doing
-    ensures { λ r. ⌜ r ≡ doingAt n ⌝ }
-{
-    match n {
-        0 => Doing::Quiet,
-        1 => Doing::Open(Action::Error),
-        2 => Doing::Open(Action::Event),
-        3 => Doing::Open(Action::Address(Target::Set)),
-        4 => Doing::Open(Action::Address(Target::Execute)),
-        5 => Doing::Open(Action::Address(Target::Load)),
-        6 => Doing::Open(Action::Address(Target::Save)),
-        _ => Doing::Open(Action::Block(n % 128)),
-    }
-}
-
-// The flat record of a link, beside the record given, whose out length is kept where no OSWORD waits.
-fn flattened(given: FlatLink, link: Link) -> FlatLink
-    ensures { λ r. ⌜ r ≡ flatOf given link ⌝ }
-{
-    let wait = link.wait;
-    let doing = link.doing;
-    FlatLink {
-        got: link.got,
-        held: link.held,
-        wait: wait_number(wait),
-        out_length: wait_out(given.out_length, wait),
-        action: doing_number(doing),
-        flags: flags_number(link.escape, link.stopped, link.nested),
-    }
-}
-
-fn wait_number(wait: Wait) -> u8
-    ensures { λ r. ⌜ r ≡ waitNumber wait ⌝ }
-{
-    match wait {
-        Wait::Idle => 0,
-        Wait::Waiting(kind) => flat_kind::kind_number(kind) + 1,
-    }
-}
-
-fn wait_out(given: u8, wait: Wait) -> u8
-    ensures { λ r. ⌜ r ≡ waitOut given wait ⌝ }
-{
-    match wait {
-        Wait::Idle => given,
-        Wait::Waiting(kind) => flat_kind::kind_out(given, kind),
-    }
-}
-
-fn doing_number(doing: Doing) -> u8
-    ensures { λ r. ⌜ r ≡ doingNumber doing ⌝ }
-{
-    match doing {
-        Doing::Quiet => 0,
-        Doing::Open(action) => match action {
-            Action::Error => 1,
-            Action::Event => 2,
-            Action::Address(target) => match target {
-                Target::Set => 3,
-                Target::Execute => 4,
-                Target::Load => 5,
-                Target::Save => 6,
-            },
-            Action::Block(n) => 128 + n % 128,
-        },
-    }
-}
-
-// The flags; a number of open transfers that no link has counts as stopped.
-fn flags_number(escape: bool, stopped: bool, nested: u8) -> u8
-    ensures { λ r. ⌜ r ≡ flagsNumber escape stopped nested ⌝ }
-{
-    if 30 < nested {
-        return 255;
-    }
-    let seen = flat::flag_number(0, escape);
-    if stopped {
-        return 4 * nested + seen + 2;
-    }
-    4 * nested + seen
 }

@@ -2,12 +2,12 @@
 // that it stays inlined in both.
 ghost use Rattle.flat_reader.specs.Readers.{Flat-done};
 ghost use Rattle.flat_link.specs.Links.{Flat-step-done};
-use flat_link::FlatLink;
 use flat_link::FlatTold;
 use flat_reader::FlatRead;
 use flat_reader::FlatReader;
 use kind::CallKind;
 use link::Link;
+use link_record::FlatLink;
 use request_reader::Reader;
 
 // One raw byte to a request reader: see `flat_request::read`.

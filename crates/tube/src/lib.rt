@@ -9,7 +9,8 @@ ghost use Rattle.flat_reader.specs.Readers.{freshReader};
 ghost use Rattle.flat_request.specs.Feeds.{Flat-feed-done};
 ghost use Rattle.flat_request_writer.specs.Calls.{callAt, Flat-request-done};
 ghost use Rattle.flat_kind.specs.Kinds.{kindAt, Flat-kind-done};
-ghost use Rattle.flat_link.specs.Links.{freshLink, Flat-begin-done};
+ghost use Rattle.link_record.specs.Records.{freshLink};
+ghost use Rattle.flat_link.specs.Links.{Flat-begin-done};
 ghost use Rattle.flat_link.specs.Runs.{Flat-run-done};
 ghost use Rattle.flat_reply.specs.Replies.{replyAt, Flat-reply-done, Flat-read-done, Flat-take-done};
 ghost use Rattle.flat_asked.specs.Asks.{Flat-asked-done};
@@ -19,7 +20,6 @@ use flat::FlatWritten;
 use flat_asked::FlatAsked;
 use flat_kind::FlatKind;
 use flat_link::FlatBegun;
-use flat_link::FlatLink;
 use flat_link::FlatRan;
 use flat_reader::FlatReader;
 use flat_reply::FlatGiven;
@@ -27,6 +27,7 @@ use flat_reply::FlatTaken;
 use flat_request::FlatFed;
 use kind::CallKind;
 use link::Link;
+use link_record::FlatLink;
 use request_reader::Reader;
 use script::Played;
 
@@ -93,12 +94,12 @@ pub extern "C" fn tube_file_name(body: &[u8]) -> FlatName
     flat::flat_name(strings::file_name(body))
 }
 
-// A fresh link: see `flat_link::fresh`.
+// A fresh link: see `link_record::fresh`.
 #[no_mangle]
 pub extern "C" fn tube_link() -> FlatLink
     ensures { λ r. ⌜ r ≡ freshLink ⌝ }
 {
-    flat_link::fresh()
+    link_record::fresh()
 }
 
 // Begins a call: see `flat_link::begin`.

@@ -15,10 +15,10 @@ use Rattle.link.specs.declared.Doing.the-variants.{Quiet, Open}
 use Rattle.link.specs.declared.Link.{Link}
 use Rattle.flat.specs.Flat.{flagNumber}
 use Rattle.flat.proofs.Flags.{not-zero}
-use Rattle.flat_link.specs.declared.FlatLink.{FlatLink}
+use Rattle.link_record.specs.declared.FlatLink.{FlatLink}
 use Rattle.flat_kind.specs.Kinds.{kindNumber}
 use Rattle.flat_kind.proofs.Numbers.{Each, each, kind-back, kind-tag, kind-same}
-use Rattle.flat_link.specs.Links.{waitAt, doingAt, seenAt, stoppedAt, nestedAt, linkOf, tagsOk, waitNumber, waitOut, doingNumber, flagsNumber, flatOf}
+use Rattle.link_record.specs.Records.{waitAt, doingAt, seenAt, stoppedAt, nestedAt, linkOf, tagsOk, waitNumber, waitOut, doingNumber, flagsNumber, flatOf}
 
 before-suc : (n : ℕ) → suc n - 1 ≡ n
 before-suc n = omega arith

@@ -1,7 +1,7 @@
 -- Each number of the record has its field.
 use borrow.Author.Needs.{needs}
-use Rattle.flat_link.proofs.unflattened.Statement.{statement}
-use Rattle.flat_link.proofs.unflattened.Tie as tie
+use Rattle.link_record.proofs.unflattened.Statement.{statement}
+use Rattle.link_record.proofs.unflattened.Tie as tie
 
 wait-at-requires : tie.Need-wait-at-requires
 wait-at-requires c κs = search needs

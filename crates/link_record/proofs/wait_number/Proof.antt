@@ -1,8 +1,8 @@
 -- A call that waits has one more than its number.
 use native.Mathlib.Numerals.{add-one}
 use borrow.Author.Needs.{needs}
-use Rattle.flat_link.proofs.wait_number.Statement.{statement}
-use Rattle.flat_link.proofs.wait_number.Tie as tie
+use Rattle.link_record.proofs.wait_number.Statement.{statement}
+use Rattle.link_record.proofs.wait_number.Tie as tie
 
 enum-told : tie.Need-enum-told
 enum-told c = search needs

@@ -1,11 +1,11 @@
 -- The numbers are in range exactly where no test finds one out of it.
-use Rattle.flat_link.proofs.has_tags.Statement.{statement}
-use Rattle.flat_link.proofs.has_tags.Tie as tie
+use Rattle.link_record.proofs.has_tags.Statement.{statement}
+use Rattle.link_record.proofs.has_tags.Tie as tie
 use native.Mathlib.Omega.{arith}
 use borrow.Author.Tests.{le-leb, lt-leb}
 use lib.Dec.{leb}
-use Rattle.flat_link.specs.Links.{tagsOk}
-use Rattle.flat_link.proofs.Conversions.{and-true}
+use Rattle.link_record.specs.Records.{tagsOk}
+use Rattle.link_record.proofs.Conversions.{and-true}
 
 returns : tie.Need-returns
 unfolding tagsOk

@@ -1,8 +1,8 @@
 -- Number 0 is idle; any other is one more than that of the call.
 use borrow.Author.Tests.{eq-eqb, ne-eqb}
 use borrow.Author.Needs.{needs}
-use Rattle.flat_link.proofs.wait_at.Statement.{statement}
-use Rattle.flat_link.proofs.wait_at.Tie as tie
+use Rattle.link_record.proofs.wait_at.Statement.{statement}
+use Rattle.link_record.proofs.wait_at.Tie as tie
 
 returns : tie.Need-returns
 returns c = rw (eq-eqb _ _ (c .if1 .taken))

@@ -1,7 +1,7 @@
 -- Each action has its number.
 use borrow.Author.Needs.{needs}
-use Rattle.flat_link.proofs.doing_number.Statement.{statement}
-use Rattle.flat_link.proofs.doing_number.Tie as tie
+use Rattle.link_record.proofs.doing_number.Statement.{statement}
+use Rattle.link_record.proofs.doing_number.Tie as tie
 
 enum-told : tie.Need-enum-told
 enum-told c = search needs

@@ -1,6 +1,6 @@
 -- Each number has its action; any other is of a control block.
-use Rattle.flat_link.proofs.doing_at.Statement.{statement}
-use Rattle.flat_link.proofs.doing_at.Tie as tie
+use Rattle.link_record.proofs.doing_at.Statement.{statement}
+use Rattle.link_record.proofs.doing_at.Tie as tie
 use borrow.Author.Tests.{ne-eqb}
 
 returns : tie.Need-returns

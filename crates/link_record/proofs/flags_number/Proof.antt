@@ -1,12 +1,12 @@
 -- The sum is that of the definition.
 use borrow.Author.Needs.{needs}
-use Rattle.flat_link.proofs.flags_number.Statement.{statement}
-use Rattle.flat_link.proofs.flags_number.Tie as tie
+use Rattle.link_record.proofs.flags_number.Statement.{statement}
+use Rattle.link_record.proofs.flags_number.Tie as tie
 use native.Mathlib.Nat.{add-zero}
 use native.Mathlib.Omega.{arith}
 use mathlib.Core.Path.{refl, sym}
 use borrow.Author.Tests.{lt-leb}
-use Rattle.flat_link.proofs.Conversions.{flag-one, flags-are}
+use Rattle.link_record.proofs.Conversions.{flag-one, flags-are}
 
 returns : tie.Need-returns
 returns c = rw (lt-leb _ _ (c .if1 .taken))

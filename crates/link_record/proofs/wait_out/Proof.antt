@@ -1,7 +1,7 @@
 -- A call that waits has its own out length, or keeps the one given.
 use borrow.Author.Needs.{needs}
-use Rattle.flat_link.proofs.wait_out.Statement.{statement}
-use Rattle.flat_link.proofs.wait_out.Tie as tie
+use Rattle.link_record.proofs.wait_out.Statement.{statement}
+use Rattle.link_record.proofs.wait_out.Tie as tie
 
 enum-told : tie.Need-enum-told
 enum-told c = search needs

@@ -1,7 +1,7 @@
 -- Each field of the record has its number.
 use borrow.Author.Needs.{needs}
-use Rattle.flat_link.proofs.flattened.Statement.{statement}
-use Rattle.flat_link.proofs.flattened.Tie as tie
+use Rattle.link_record.proofs.flattened.Statement.{statement}
+use Rattle.link_record.proofs.flattened.Tie as tie
 
 wait-number-requires : tie.Need-wait-number-requires
 wait-number-requires c κs = search needs
