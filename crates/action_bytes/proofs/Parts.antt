@@ -1,13 +1,13 @@
 -- An action's own bytes, and how an action starts.
-use Prim.Native.Nat.{ℕ, zero, suc, _+_, _-_, _≤_, _<_}
+use Prim.Native.Nat.{ℕ, _+_, _-_, _≤_, _<_}
 use native.Mathlib.Omega.{arith}
 use mathlib.Core.Path.{_≡_, refl, sym, ap, subst, _∙_}
 use mathlib.Core.Bool.{Bool, true, false, cond}
 use mathlib.Core.List.{List, [], _∷_, _++_}
 use lib.Dec.{eqb, ltb}
-use lib.ListN.{length, take, drop, set, length-drop, length-set}
+use lib.ListN.{length, take, set, length-drop, length-set}
 use lib.Seq.{length-take-le, take-set-le, getD-take, getD-at}
-use borrow.Author.Tests.{lt-ltb, ltb-true, ne-eqb, leb-true, leb-false}
+use borrow.Author.Tests.{lt-ltb, ltb-true, leb-true, leb-false}
 use Rattle.escape.specs.Units as units
 use Rattle.escape.specs.Units.{unitAt}
 use Rattle.escape.proofs.Units.{data-near, mark-near}
@@ -26,7 +26,8 @@ use Rattle.actions.specs.declared.Action.{Action}
 use Rattle.actions.specs.declared.Action.the-variants.{Error, Event, Address, Block}
 use Rattle.link.specs.declared.Answer.{Answer}
 use Rattle.link.specs.declared.Answer.the-variants as variant
-use Rattle.link.specs.View.{ownLent, transferFor, reportOf, answerFor, failureFor, toldBy}
+use Rattle.link.specs.View.{ownLent, transferFor, reportOf, failureFor, toldBy}
+use Rattle.link.proofs.Steps.{failure-sized, failure-of}
 use Rattle.action_bytes.specs.Walk as walk
 use Rattle.action_bytes.specs.Walk.{Own}
 use Rattle.action_bytes.specs.Parts.{outcomeOf, Ends, Whole-done, Halted-done, finishOf, Began-halt, Began-told, Began-opens, Began-done, isFifth}
@@ -122,35 +123,6 @@ module _ (reply : List ℕ) where
       go true false = refl
       go false s = refl
 
-failure-sized : (own : List ℕ) (n k : ℕ) → k ≤ length (drop 1 own) → failureFor n k ≡ answerFor (reportOf (failureFor n k) [] own)
-failure-sized own n k h = go (eqb n 0) (eqb k 0)
-  where
-    whole : variant.Error n k ≡ variant.Error n (length (take k (drop 1 own)))
-    whole = rw (length-take-le k (drop 1 own) h)
-
-    go : (t s : Bool) → let a = cond t (cond s variant.Restart (variant.Error n k)) (variant.Error n k) in a ≡ answerFor (reportOf a [] own)
-    go true true = refl
-    go true false = whole
-    go false s = whole
-
-failure-report : (n k : ℕ) (t : List ℕ) → k ≤ length t → reportOf (failureFor n k) [] (n ∷ t) ≡ rules.failure n (take k t)
-failure-report n zero t h = go (eqb n 0)
-  where
-    go : (s : Bool) → reportOf (cond s variant.Restart (variant.Error n 0)) [] (n ∷ t) ≡ cond s rules.restart (rules.error n [])
-    go true = refl
-    go false = refl
-failure-report n (suc k) [] h = absurd (omega arith)
-failure-report n (suc k) (b ∷ t) h = rw (ne-eqb (suc k) 0 (λ e. omega arith)) (go (eqb n 0))
-  where
-    go : (s : Bool) → reportOf (cond s (variant.Error n (suc k)) (variant.Error n (suc k))) [] (n ∷ b ∷ t) ≡ rules.error n (b ∷ take k t)
-    go true = refl
-    go false = refl
-
-failure-of : (own : List ℕ) (n : ℕ) → 1 ≤ n → n ≤ length own → reportOf (failureFor (at own 0) (n - 1)) [] own ≡ rules.failureOf (take n own)
-failure-of [] n low high = absurd (omega arith)
-failure-of (x ∷ own) zero low high = absurd (omega arith)
-failure-of (x ∷ own) (suc n) low high = let e : suc n - 1 ≡ n = omega arith in rw e (failure-report x n own (omega arith))
-
 failure-stops : (h : List ℕ) → passes (rules.failureOf h) ≡ false
 unfolding passes
 failure-stops [] = refl
@@ -204,12 +176,12 @@ module _ {s : List ℕ} {i : ℕ} {own : List ℕ} {held k : ℕ} (d : ℕ) (siz
       let low : 1 ≤ held = text-done held (w .last) (w .turn) in
       let high : held ≤ length own = omega (arith, size, w .most) in
       let is : outcomeOf (failureFor (at own 0) (held - 1)) [] own ≡ closed (rules.failureOf (take held own)) =
-      failure-closes [] own (at own 0) (held - 1) ∙ ap closed (failure-of own held low high) in
+      failure-closes [] own (at own 0) (held - 1) ∙ ap closed (failure-of [] own held low high) in
       record {
         says = rw is (laws.act-error s d i (failure-stops (take held own)) (w .says));
         ends = record {
           same = λ reply. failure-closes reply own (at own 0) (held - 1) ∙ sym (failure-closes [] own (at own 0) (held - 1));
-          sized = rw (failure-closes [] own (at own 0) (held - 1)) (failure-sized own (at own 0) (held - 1) (simp length-drop (omega arith)));
+          sized = rw (failure-closes [] own (at own 0) (held - 1)) (failure-sized [] own (at own 0) (held - 1) (simp length-drop (omega arith)));
         };
         far = omega (arith, w .far);
         near = w .near;

@@ -2,7 +2,7 @@
 use Prim.Native.Nat.{ℕ, _≤_, _<_}
 use native.Mathlib.Omega.{arith}
 use mathlib.Core.Path.{_≡_, refl, ap, subst, _∙_}
-use mathlib.Core.Bool.{Bool, true, false}
+use mathlib.Core.Bool.{true, false}
 use mathlib.Core.List.{List}
 use lib.ListN.{length}
 use Rattle.serial_rules.specs.Link as rules
@@ -15,6 +15,7 @@ use Rattle.link_loop.specs.declared.Ran.{Ran}
 use Rattle.link.specs.View.{begunOf, Begin-done, Begin-none-done, Step-done}
 use Rattle.link_loop.specs.Run.{Run-done}
 use Rattle.link_record.specs.declared.FlatLink.{FlatLink}
+use Rattle.notes.proofs.Laws.{not-both}
 use Rattle.flat_link.specs.declared.FlatTold.{FlatTold}
 use Rattle.flat_link.specs.declared.FlatRan.{FlatRan}
 use Rattle.flat_link.specs.declared.FlatBegun.{FlatBegun}
@@ -23,9 +24,6 @@ use Rattle.link_record.specs.Records.{linkOf, tagsOk, flatOf}
 use Rattle.flat_link.specs.Links.{flatTold, Flat-step-done, flatBegun, flatStarted, Flat-begin-done}
 use Rattle.flat_link.specs.Runs.{flatRan, flatUnknown, Flat-run-done}
 use Rattle.link_record.proofs.Conversions.{flat-back}
-
-not-both : {t : Bool} → t ≡ true → t ≡ false → ⊥
-not-both on off = let z : _≡_ {A = ℕ} 0 1 = cc in omega arith
 
 -- one byte, by whether the numbers are in range
 module _ {f : FlatLink} {reply own : List ℕ} {x : ℕ} {r : FlatTold} where

@@ -364,7 +364,7 @@ failure-told n k = go (eqb n 0) (eqb k 0)
     go true false = omega arith
     go false s = omega arith
 
-failure-sized : (reply own : List ℕ) (n k : ℕ) → k ≤ length (drop 1 own) → failureFor n k ≡ answerFor (reportOf (failureFor n k) reply own)
+pub failure-sized : (reply own : List ℕ) (n k : ℕ) → k ≤ length (drop 1 own) → failureFor n k ≡ answerFor (reportOf (failureFor n k) reply own)
 failure-sized reply own n k h = go (eqb n 0) (eqb k 0)
   where
     whole : variant.Error n k ≡ variant.Error n (length (take k (drop 1 own)))
@@ -388,7 +388,7 @@ failure-report reply n (suc k) (b ∷ t) h = rw (ne-eqb (suc k) 0 (λ e. omega a
     go true = refl
     go false = refl
 
-failure-of : (reply own : List ℕ) (n : ℕ) → 1 ≤ n → n ≤ length own → reportOf (failureFor (at own 0) (n - 1)) reply own ≡ rules.failureOf (take n own)
+pub failure-of : (reply own : List ℕ) (n : ℕ) → 1 ≤ n → n ≤ length own → reportOf (failureFor (at own 0) (n - 1)) reply own ≡ rules.failureOf (take n own)
 failure-of reply [] n low high = absurd (omega arith)
 failure-of reply (x ∷ own) zero low high = absurd (omega arith)
 failure-of reply (x ∷ own) (suc n) low high = let e : suc n - 1 ≡ n = omega arith in rw e (failure-report reply x n own (omega arith))

@@ -21,7 +21,7 @@ use Rattle.link.specs.View.{ownLent, viewOf, reportOf, answerFor, Step-done}
 use Rattle.notes.specs.declared.Log.{Log}
 use Rattle.notes.specs.Notes.{Given, nothing, addsAll, notesOf, dataOf}
 use Rattle.notes.specs.Logs.{fresh, Holds, dataIn, mostCount, countable, Add-done}
-use Rattle.notes.proofs.Laws.{holds-nothing, logs-hold}
+use Rattle.notes.proofs.Laws.{not-both, holds-nothing, logs-hold}
 use Rattle.notes.proofs.Counts.{contentIn, data-counted, adds-append, adds-snoc, adds-quiet, notes-most}
 use Rattle.link_loop.specs.declared.Ran.{Ran}
 use Rattle.link_loop.specs.declared.Taken.{Taken}
@@ -124,9 +124,6 @@ unfolding addsAll
 begins l reply own room content = record { reports = []; passed = none; steps = stop; held = holds-nothing }
 
 -- What `run` promises: of too little room, and of what the loop did with enough.
-not-both : {t : Bool} → t ≡ true → t ≡ false → ⊥
-not-both on off = let z : _≡_ {A = ℕ} 0 1 = cc in omega arith
-
 pub no-room : {l : Link} {reply own raw room content : List ℕ} {r : Ran} → lacksRoom (l .held) (length raw) (length room) (length content) ≡ true
     → r ≡ endedFrom l (variant.Refused 8) 0 fresh → Run-done l reply own raw room content r reply own room content
 no-room h q = record { short = λ _. (q, refl, refl, refl, refl); ran = λ k. absurd (not-both h k) }
