@@ -24,10 +24,11 @@ use Rattle.actions.specs.declared.Target.{Target}
 use Rattle.actions.specs.declared.Target.the-variants.{Set, Execute, Load, Save}
 use Rattle.actions.specs.declared.Action.{Action}
 use Rattle.actions.specs.declared.Action.the-variants.{Error, Event, Address, Block}
-use Rattle.link.specs.declared.Answer.{Answer}
-use Rattle.link.specs.declared.Answer.the-variants as variant
-use Rattle.link.specs.View.{ownLent, transferFor, reportOf, failureFor, toldBy}
-use Rattle.link.proofs.Steps.{failure-sized, failure-of}
+use Rattle.answers.specs.declared.Answer.{Answer}
+use Rattle.answers.specs.declared.Answer.the-variants as variant
+use Rattle.link.specs.View.{ownLent}
+use Rattle.answers.specs.Reports.{transferFor, reportOf, failureFor, toldBy}
+use Rattle.answers.proofs.Reports.{failure-sized, failure-of}
 use Rattle.action_bytes.specs.Walk as walk
 use Rattle.action_bytes.specs.Walk.{Own}
 use Rattle.action_bytes.specs.Parts.{outcomeOf, Ends, Whole-done, Halted-done, finishOf, Began-halt, Began-told, Began-opens, Began-done, isFifth}

@@ -15,9 +15,9 @@ use Rattle.actions.specs.declared.Target.the-variants.{Set, Execute, Load, Save
 use Rattle.actions.specs.declared.Action.{Action}
 use Rattle.actions.specs.declared.Action.the-variants.{Error, Event, Address, Block}
 use Rattle.actions.specs.declared.Meaning.{Meaning}
-use Rattle.link.specs.declared.Answer.{Answer}
-use Rattle.link.specs.declared.Answer.the-variants as variant
-use Rattle.link.specs.View.{reportOf, transferFor, answerFor}
+use Rattle.answers.specs.declared.Answer.{Answer}
+use Rattle.answers.specs.declared.Answer.the-variants as variant
+use Rattle.answers.specs.Reports.{reportOf, transferFor, answerFor}
 use Rattle.notes.specs.Logs.{dataIn}
 use Rattle.action_bytes.specs.declared.Owned as code-owned
 use Rattle.action_bytes.specs.declared.Owned.the-variants as owned

@@ -2,8 +2,8 @@
 use actions::Action;
 use actions::Meaning;
 use actions::Target;
+use answers::Answer;
 use escape::Unit;
-use link::Answer;
 use link::Link;
 use turns::Turn;
 ghost use Prim.Native.Nat.{_≤_, _<_, min};
@@ -76,7 +76,7 @@ fn start(raw: &[u8], at: usize, action: Action, depth: usize, own: &mut [u8]) ->
     let owned = own_bytes(raw, at, action, own);
     match owned {
         Owned::Halt(answer, next) => Began::Halt(answer, next),
-        Owned::Whole(held, next) => finish(action, link::told_by(action, held, own), next),
+        Owned::Whole(held, next) => finish(action, answers::told_by(action, held, own), next),
     }
 }
 

@@ -2,7 +2,8 @@
 use shapes::Shape;
 ghost use Prim.Native.Nat.{_≤_};
 ghost use mathlib.Core.Path.{_≡_};
-ghost use Rattle.serial_rules.specs.Link.{control, ownShape, ownMost, meaningOf};
+ghost use Rattle.serial_rules.specs.Link.{control, ownShape, ownMost, meaningOf, mayStart};
+ghost use Rattle.serial_rules.specs.Nest.{nestOf};
 ghost use Rattle.shapes.specs.Shapes.{shapeFor, longestShape};
 ghost use Rattle.actions.specs.Actions.{actionFor, meaningFor, opensTransfer};
 
@@ -58,6 +59,16 @@ impl Action {
             },
             Action::Block(_) => false,
         }
+    }
+
+    // Whether it may start where the transfers of a number are open: at most four may be.
+    pub fn may_start(self, nested: u8) -> bool
+        ensures { λ r. ⌜ r ≡ mayStart (actionFor self) (nestOf nested) ⌝ }
+    {
+        if self.opens_transfer() {
+            return nested < 15;
+        }
+        true
     }
 
     // The most bytes of its own; 0 for a control block that no mark opens.

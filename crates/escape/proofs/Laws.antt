@@ -1,12 +1,16 @@
--- Writes one after the other are one write; the escape bytes among those from a place on.
+-- Writes one after the other are one write; the escape bytes among those from a place on, and what the search for one passes.
 use Prim.Native.Nat.{ℕ, suc, _+_, _-_, _≤_, _<_}
+use native.Mathlib.Nat.{zero-add}
 use native.Mathlib.Numerals.{add-one}
 use native.Mathlib.Omega.{arith}
 use mathlib.Core.Path.{_≡_, refl, sym, ap, _∙_}
+use mathlib.Core.Bool.{Bool, true, false, cond, _||_, or-assoc, or-false}
 use mathlib.Core.List.{List, [], _∷_, _++_, append-assoc, append-nil}
+use borrow.Author.Tests.{lt-ltb}
+use lib.Dec.{eqb, ltb}
 use lib.ListN.{length, take, drop, getD, set, length-append, length-drop, length-take, drop-of-length-le}
 use lib.Seq.{take-at, drop-at, drop-drop, drop-cons, set-at, take-suc, take-all}
-use Rattle.serial_rules.specs.Escape.{escapes}
+use Rattle.serial_rules.specs.Escape.{escape, escapes}
 use Rattle.escape.specs.Layer.{isEscape}
 use Rattle.escape.specs.Put.{over, Put}
 
@@ -68,3 +72,18 @@ module _ (l : List ℕ) (i : ℕ) where
   pub escapes-none : length l ≤ i → escapes (drop i l) ≡ 0
   unfolding escapes
   escapes-none h = rw (drop-of-length-le l h)
+
+-- Whether an escape byte stands among bytes: among the first i, which is found, or from i on.
+some-more : (t : Bool) (n : ℕ) → ltb 0 (cond t 1 0 + n) ≡ (t || ltb 0 n)
+some-more true n = lt-ltb 0 (1 + n) (omega arith)
+some-more false n = ap (ltb 0) (zero-add n)
+
+module _ (l : List ℕ) (i : ℕ) (found : Bool) where
+  pub escape-more : {more : Bool} → i < length l → more ≡ (found || eqb (getD l i 0) escape) → (found || ltb 0 (escapes (drop i l))) ≡ ltb 0 (escapes l)
+      → (more || ltb 0 (escapes (drop (i + 1) l))) ≡ ltb 0 (escapes l)
+  escape-more h e inv =
+      let t = eqb (getD l i 0) escape in
+      rw e (or-assoc found t (ltb 0 (escapes (drop (i + 1) l))) ∙ (rw (escapes-more l i h, some-more t) at inv))
+
+  pub escape-all : length l ≤ i → (found || ltb 0 (escapes (drop i l))) ≡ ltb 0 (escapes l) → found ≡ ltb 0 (escapes l)
+  escape-all h inv = sym (or-false found) ∙ (rw (escapes-none l i h) at inv)

@@ -1,7 +1,9 @@
 // The escape layer of the serial protocol.
 ghost use Prim.Native.Nat.{_≤_};
 ghost use mathlib.Core.Path.{_≡_};
-ghost use Rattle.serial_rules.specs.Escape.{pieceOf, escapes};
+ghost use mathlib.Core.Bool.{_||_};
+ghost use lib.Dec.{eqb, ltb};
+ghost use Rattle.serial_rules.specs.Escape.{escape, pieceOf, escapes};
 ghost use Rattle.escape.specs.Layer.{pieceFor, isEscape};
 ghost use Rattle.escape.specs.Units.{unitAt, unitFor};
 
@@ -80,4 +82,23 @@ pub fn is_escape(byte: u8) -> usize
     ensures { λ r. ⌜ (r ≡ isEscape byte) × (r ≤ 1) ⌝ }
 {
     if byte == Piece::ESCAPE { 1 } else { 0 }
+}
+
+// Whether one of the bytes is an escape byte. The loop has no other way out, so that it tests many bytes at once.
+pub fn has_escape(bytes: &[u8]) -> bool
+    ensures { λ r. ⌜ r ≡ ltb 0 (escapes (now (bytes .entry))) ⌝ }
+{
+    let mut found = false;
+    let mut i: usize = 0;
+    while i < bytes.len() {
+        found = or_escape(found, bytes[i]);
+        i += 1;
+    }
+    found
+}
+
+fn or_escape(found: bool, byte: u8) -> bool
+    ensures { λ r. ⌜ r ≡ (found || eqb byte escape) ⌝ }
+{
+    if byte == Piece::ESCAPE { true } else { found }
 }

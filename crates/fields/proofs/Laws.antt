@@ -1,21 +1,19 @@
--- Laws of the field writers: data bytes without an escape byte, one field after another, what the search for an escape byte passes, and what
--- the writer promises.
+-- Laws of the field writers: data bytes without an escape byte, one field after another, and what the writer promises.
 use Prim.Native.Nat.{ℕ, _+_, _-_, _≤_, _<_}
-use native.Mathlib.Nat.{zero-add}
 use native.Mathlib.Omega.{arith}
 use mathlib.Core.Path.{_≡_, refl, sym, ap, _∙_}
-use mathlib.Core.Bool.{Bool, true, false, cond, _||_, or-assoc, or-false}
+use mathlib.Core.Bool.{Bool, true, false, cond}
 use mathlib.Core.List.{List, [], _∷_, _++_}
 use borrow.Author.Needs.{needs}
 use borrow.Author.Tests.{lt-ltb, le-ltb, ltb-false}
 use lib.Dec.{eqb, ltb}
-use lib.ListN.{length, take, drop, getD}
+use lib.ListN.{length, take, drop}
 use Rattle.serial_rules.specs.Escape.{escape, escaped, escapes}
 use Rattle.serial_rules.proofs.Stream.{carried-append}
 use Rattle.carrier.specs.declared.Carrier.{Carrier}
 use Rattle.carrier.specs.Carriers.{carrierOf}
 use Rattle.escape.specs.Put.{Put}
-use Rattle.escape.proofs.Laws.{put-as, put-tail, tail-room, escapes-more, escapes-none}
+use Rattle.escape.proofs.Laws.{put-as, put-tail, tail-room}
 use Rattle.room.specs.Carriers.{coded}
 use Rattle.room.proofs.Coded.{pair-length}
 use Rattle.fields.specs.declared.Written.the-variants.{Done, NoRoom}
@@ -51,21 +49,6 @@ put-pair carrier x y a b = put-as (sym (carried-append (carrierOf carrier) x y))
 
 -- what a writer of two fields needs
 pub ruleset fields = (first-room, second-room, put-pair, needs)
-
--- Whether an escape byte stands among bytes: among the first i, which is found, or from i on.
-some-more : (t : Bool) (n : ℕ) → ltb 0 (cond t 1 0 + n) ≡ (t || ltb 0 n)
-some-more true n = lt-ltb 0 (1 + n) (omega arith)
-some-more false n = ap (ltb 0) (zero-add n)
-
-module _ (l : List ℕ) (i : ℕ) (found : Bool) where
-  pub escape-more : {more : Bool} → i < length l → more ≡ (found || eqb (getD l i 0) escape) → (found || ltb 0 (escapes (drop i l))) ≡ ltb 0 (escapes l)
-      → (more || ltb 0 (escapes (drop (i + 1) l))) ≡ ltb 0 (escapes l)
-  escape-more h e inv =
-      let t = eqb (getD l i 0) escape in
-      rw e (or-assoc found t (ltb 0 (escapes (drop (i + 1) l))) ∙ (rw (escapes-more l i h, some-more t) at inv))
-
-  pub escape-all : length l ≤ i → (found || ltb 0 (escapes (drop i l))) ≡ ltb 0 (escapes l) → found ≡ ltb 0 (escapes l)
-  escape-all h inv = sym (or-false found) ∙ (rw (escapes-none l i h) at inv)
 
 -- What a writer promises of a write and of a refusal.
 module _ {w out : List ℕ} where

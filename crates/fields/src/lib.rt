@@ -1,13 +1,9 @@
 // The writer that every encoding is made with: a heading, then four fields of data bytes.
 use carrier::Carrier;
-use escape::Piece;
 ghost use Prim.Native.Nat.{_≤_};
-ghost use mathlib.Core.Path.{_≡_};
 ghost use mathlib.Core.List.{[], _∷_, _++_};
-ghost use mathlib.Core.Bool.{_||_};
-ghost use lib.Dec.{eqb, ltb};
 ghost use lib.ListN.{length};
-ghost use Rattle.serial_rules.specs.Escape.{escape, escaped, escapes};
+ghost use Rattle.serial_rules.specs.Escape.{escape, escaped};
 ghost use Rattle.escape.specs.Put.{Put};
 ghost use Rattle.room.specs.Carriers.{coded, partsRaw};
 ghost use Rattle.fields.specs.Promise.{Encoded};
@@ -37,25 +33,6 @@ pub fn write_fields(
         return Written::Done(put_parts(carrier, heading, first, second, third, fourth, out));
     }
     Written::NoRoom
-}
-
-// Whether one of the bytes is an escape byte. The loop has no other way out, so that it tests many bytes at once.
-fn has_escape(bytes: &[u8]) -> bool
-    ensures { λ r. ⌜ r ≡ ltb 0 (escapes (now (bytes .entry))) ⌝ }
-{
-    let mut found = false;
-    let mut i: usize = 0;
-    while i < bytes.len() {
-        found = or_escape(found, bytes[i]);
-        i += 1;
-    }
-    found
-}
-
-fn or_escape(found: bool, byte: u8) -> bool
-    ensures { λ r. ⌜ r ≡ (found || eqb byte escape) ⌝ }
-{
-    if byte == Piece::ESCAPE { true } else { found }
 }
 
 // Writes the whole, for which there is room; returns how many bytes. Each field goes into the tail that those before it leave.
@@ -126,7 +103,7 @@ fn put_serial(bytes: &[u8], out: &mut [u8]) -> usize
     requires { ⌜ length (escaped (now bytes)) ≤ length (now out) ⌝ }
     ensures { λ r. ⌜ Put (escaped (now (bytes .entry))) (now (out .entry)) (now (out .exit)) r ⌝ }
 {
-    if has_escape(bytes) {
+    if escape::has_escape(bytes) {
         return put_bytes(bytes, out);
     }
     put_plain(bytes, out)

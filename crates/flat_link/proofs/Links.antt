@@ -8,7 +8,7 @@ use lib.ListN.{length}
 use Rattle.serial_rules.specs.Link as rules
 use Rattle.kind.specs.declared.CallKind.{CallKind}
 use Rattle.link.specs.declared.Link.{Link}
-use Rattle.link.specs.declared.Answer.the-variants as variant
+use Rattle.answers.specs.declared.Answer.the-variants as variant
 use Rattle.link.specs.declared.Stepped.{Stepped}
 use Rattle.link.specs.declared.Started.{Started}
 use Rattle.link_loop.specs.declared.Ran.{Ran}

@@ -8,16 +8,17 @@ use borrow.Author.Tests.{ltb-true}
 use mathlib.Core.List.{List}
 use Rattle.serial_rules.specs.Link as rules
 use Rattle.link.specs.declared.Link.{Link}
-use Rattle.link.specs.declared.Answer.{Answer}
+use Rattle.answers.specs.declared.Answer.{Answer}
 use Rattle.link.specs.declared.Stepped.{Stepped}
 use Rattle.link.specs.declared.Doing.{Doing}
 use Rattle.link.specs.declared.Doing.the-variants.{Quiet, Open}
 use Rattle.actions.specs.declared.Action.the-variants.{Error, Event, Address, Block}
-use Rattle.link.specs.View.{ownRoom, usableOf, viewOf, answerFor, Step-done}
+use Rattle.link.specs.View.{ownRoom, usableOf, viewOf, Step-done}
+use Rattle.answers.specs.Reports.{answerFor}
 use Rattle.link.proofs.Steps.{usable-held, nested-low}
 use Rattle.link.proofs.Settled.{Refuses, refuses, stops}
 use Rattle.serial_rules.proofs.Shapes.{choice}
-use Rattle.link.specs.declared.Answer.the-variants as variant
+use Rattle.answers.specs.declared.Answer.the-variants as variant
 use Rattle.link_loop.specs.Run.{Runs}
 use Rattle.link_loop.specs.Run as runs
 use Rattle.link_record.specs.declared.FlatLink.{FlatLink}

@@ -6,8 +6,8 @@ use mathlib.Core.List.{List}
 use Rattle.serial_rules.specs.Link as rules
 use Rattle.actions.specs.Actions.{targetFor}
 use Rattle.actions.specs.declared.Action.the-variants.{Error, Event, Address, Block}
-use Rattle.link.specs.declared.Answer.{Answer}
-use Rattle.link.specs.declared.Answer.the-variants as variant
+use Rattle.answers.specs.declared.Answer.{Answer}
+use Rattle.answers.specs.declared.Answer.the-variants as variant
 use Rattle.link.specs.declared.Stepped.{Stepped}
 use Rattle.link.specs.declared.Started.{Started}
 use Rattle.link.specs.View.{begunOf, Begin-done, Begin-none-done, Step-done}

@@ -5,7 +5,7 @@ use mathlib.Core.Bool.{true, false, cond}
 use mathlib.Core.List.{List}
 use lib.Dec.{eqb}
 use lib.ListN.{length}
-use Rattle.link.specs.declared.Answer.the-variants as variant
+use Rattle.answers.specs.declared.Answer.the-variants as variant
 use Rattle.link_loop.specs.declared.Ran.{Ran}
 use Rattle.link_loop.specs.Run.{lacksRoom, Run-done}
 use Rattle.link_record.specs.declared.FlatLink.{FlatLink}

@@ -4,7 +4,7 @@ use mathlib.Core.Path.{_≡_}
 use mathlib.Core.Bool.{true}
 use mathlib.Core.List.{List, [], _∷_}
 use Rattle.serial_rules.specs.Link as rules
-use Rattle.link.specs.View.{reportOf}
+use Rattle.answers.specs.Reports.{reportOf}
 use Rattle.link_record.specs.declared.FlatLink.{FlatLink}
 use Rattle.flat_link.specs.declared.FlatTold.{FlatTold}
 use Rattle.link_record.specs.Records.{tagsOk}

@@ -9,10 +9,10 @@ ghost use Rattle.flat_link.specs.Runs.{flatRan, flatUnknown, ranWith, Fl
 ghost use Rattle.flat_link.specs.Field.{Reply-byte, turnIn, placedNext, placedIdle};
 ghost use Rattle.serial_rules.specs.Body.{refused};
 ghost use Rattle.turns.specs.Turns.{turnOf};
+use answers::Answer;
 use escape::Piece;
 use flat_kind::FlatKind;
 use kind::CallKind;
-use link::Answer;
 use link::Begun;
 use link::Link;
 use link::Started;

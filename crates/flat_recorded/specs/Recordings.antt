@@ -4,8 +4,8 @@ use mathlib.Core.Path.{_≡_}
 use mathlib.Core.List.{List}
 use Rattle.flat_kind.specs.Kinds.{lastCall}
 use Rattle.kind.specs.declared.CallKind.{CallKind}
-use Rattle.link.specs.declared.Answer.{Answer}
-use Rattle.link.specs.declared.Answer.the-variants as variant
+use Rattle.answers.specs.declared.Answer.{Answer}
+use Rattle.answers.specs.declared.Answer.the-variants as variant
 use Rattle.recorded.specs.declared.Recorded.{Recorded}
 use Rattle.recorded.specs.Promise.{Read-done}
 use Rattle.flat_recorded.specs.declared.FlatRecorded.{FlatRecorded}

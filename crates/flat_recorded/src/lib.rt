@@ -2,9 +2,9 @@
 ghost use mathlib.Core.Path.{_≡_};
 ghost use Rattle.flat_kind.specs.Kinds.{kindAt};
 ghost use Rattle.flat_recorded.specs.Recordings.{recordedWith, flatRecorded, Flat-recorded-done};
+use answers::Answer;
 use flat_kind::FlatKind;
 use kind::CallKind;
-use link::Answer;
 use recorded::Recorded;
 
 // What a recorded reply gives: the raw bytes used, the notes and the bytes of data; by its kind 0 the recording ran out, 5 is a reply (length), 6 an

@@ -29,9 +29,10 @@ use Rattle.actions.specs.declared.Target.the-variants.{Set, Execute, Load, Save
 use Rattle.link.specs.declared.Doing.{Doing}
 use Rattle.link.specs.declared.Doing.the-variants.{Quiet, Open}
 use Rattle.link.specs.declared.Link.{Link}
-use Rattle.link.specs.declared.Answer.{Answer}
+use Rattle.answers.specs.declared.Answer.{Answer}
 use Rattle.link.specs.declared.Stepped.{Stepped}
-use Rattle.link.specs.View.{waitFor, doingFor, targetBack, replyRoom, ownRoom, usableOf, ownLent, viewOf, answerFor, waitLent, tokenLent, replyAfter, pieceLent, ownAfter, stoppedFrom, Step-done}
+use Rattle.link.specs.View.{waitFor, doingFor, replyRoom, ownRoom, usableOf, ownLent, viewOf, waitLent, tokenLent, replyAfter, pieceLent, ownAfter, stoppedFrom, Step-done}
+use Rattle.answers.specs.Reports.{targetBack, answerFor}
 use Rattle.link.proofs.Steps.{usable-live, usable-got, usable-held, nested-low}
 
 -- the parts of a record from those of its view: no two have one view

@@ -1,5 +1,5 @@
 -- What each outcome of a raw byte promises: one law for each.
-use Prim.Native.Nat.{ℕ, zero, suc, _+_, _-_, _*_, _≤_, _<_, _/_, _%_}
+use Prim.Native.Nat.{ℕ, _+_, _-_, _*_, _≤_, _<_, _/_, _%_}
 use mathlib.Core.Path.{_≡_, refl, sym, ap, subst, _∙_}
 use mathlib.Core.Bool.{Bool, true, false, cond, not, _&&_}
 use mathlib.Core.List.{List, [], _∷_}
@@ -7,9 +7,9 @@ use native.Mathlib.Omega.{arith}
 use native.Mathlib.Nat.{le-of-lt}
 use denote.Enum.Declared.{tagOf}
 use lib.Dec.{eqb, ltb}
-use lib.ListN.{length, take, drop, set, length-drop, length-set}
+use lib.ListN.{length, take, set, length-drop, length-set}
 use lib.Seq.{length-take-le, take-set-le, getD-take, getD-set-same, getD-set-other}
-use borrow.Author.Tests.{ltb-true, ltb-false, lt-ltb, eq-eqb, ne-eqb, eqb-true, eqb-false, not-true}
+use borrow.Author.Tests.{ltb-true, lt-ltb, eq-eqb, ne-eqb, eqb-true, eqb-false, not-true}
 use Rattle.serial_rules.specs.Escape.{Piece, pending, dataByte, mark, pieceOf}
 use Rattle.serial_rules.specs.Body.{more, done, refused}
 use Rattle.serial_rules.specs.Fields.{at}
@@ -20,7 +20,7 @@ use Rattle.serial_rules.proofs.Lent.{take-next}
 use Rattle.serial_rules.proofs.Shapes.{choice, more-fits, fixed-done, text-done}
 use Rattle.serial_rules.proofs.Trip.{and-both}
 use Rattle.serial_rules.proofs.Depth as depth
-use Rattle.serial_rules.proofs.Nest.{nest-none, nest-top, nest-load, nest-save, nest-few, nest-full}
+use Rattle.serial_rules.proofs.Nest.{nest-none, nest-top, nest-load, nest-save}
 use Rattle.actions.specs.Actions.{actionFor, meaningFor, opensTransfer}
 use Rattle.actions.specs.declared.Target.{Target}
 use Rattle.actions.specs.declared.Target.the-variants.{Set, Execute, Load, Save}
@@ -35,12 +35,15 @@ use Rattle.link.specs.declared.Wait.the-variants.{Idle, Waiting}
 use Rattle.link.specs.declared.Doing.{Doing}
 use Rattle.link.specs.declared.Doing.the-variants.{Quiet, Open}
 use Rattle.link.specs.declared.Link.{Link}
-use Rattle.link.specs.declared.Answer.{Answer}
-use Rattle.link.specs.declared.Answer.the-variants as variant
+use Rattle.answers.specs.declared.Answer.{Answer}
+use Rattle.answers.specs.declared.Answer.the-variants as variant
 use Rattle.link.specs.declared.Stepped.{Stepped}
-use Rattle.link.specs.View.{waitFor, doingFor, replyRoom, ownRoom, nestRoom, usableOf, transferFor, reportOf, answerFor, failureFor, toldBy, waitLent, doingLent, pieceLent, replyAfter, ownAfter, Step-done}
+use Rattle.link.specs.View.{waitFor, doingFor, replyRoom, ownRoom, nestRoom, usableOf, waitLent, doingLent, pieceLent, replyAfter, ownAfter, Step-done}
+use Rattle.answers.specs.Reports.{transferFor, reportOf, answerFor, failureFor, toldBy}
 use Rattle.link.specs.Parts.{refusedFrom, pausedFrom, goingFrom, nestingFrom, placedFrom, restingWith, frameOf, doingOf, Link-gives, Met, Mark-done, Outside-done, Opening-done, Start-done, Closing-done, Data-done, Reply-byte-done, Own-done, finishAt, Finished-done}
-use Rattle.link.proofs.Answer as answers
+use Rattle.answers.proofs.Answer as answers
+use Rattle.answers.proofs.Reports.{told, answer-back, failure-told, failure-sized, failure-of}
+use Rattle.actions.proofs.Starts.{may-open}
 
 -- a usable record, part by part
 module _ (l : Link) (e : usableOf l ≡ true) where
@@ -77,10 +80,6 @@ nest-most (Open a) = choice (λ (n : ℕ). n ≤ 31) (opensTransfer a) (λ _. om
 
 pub nested-low : (l : Link) → usableOf l ≡ true → l .nested ≤ 30
 nested-low l u = omega (arith, usable-nested l u, nest-most (l .doing))
-
--- an answer that is no refusal: `Refused` is the last of them
-told : (a : Answer) → tagOf answers.the-type a < 11 → (n : ℕ) → a ≡ variant.Refused n → ⊥
-told a h n e = omega (arith, ap (tagOf answers.the-type) e)
 
 -- the five ways in which a step leaves the record
 module _ (l : Link) (reply own : List ℕ) where
@@ -155,37 +154,10 @@ ReplyAt l reply own b x left w =
     let m = rules.datumMet (frameOf l reply) (waitFor w) b in
     Link-gives l (rules.gives (m .report) (rules.linkAt (rules.layer false rules.none []) (m .next))) (waitLent reply (waitFor w) (take (l .got) reply) b) own x left own
 
--- whether an action may start where the transfers of number n are open
-abbrev Different : Type 0
-Different = _≡_ {A = ℕ} 0 1
-
-module _ (n : ℕ) where
-  pub may-always : (a : Action) → opensTransfer a ≡ false → rules.mayStart (actionFor a) (nestOf n) ≡ true
-  may-always Error e = refl
-  may-always Event e = refl
-  may-always (Address Set) e = refl
-  may-always (Address Execute) e = refl
-  may-always (Address Load) e = let z : Different = cc in absurd (omega arith)
-  may-always (Address Save) e = let z : Different = cc in absurd (omega arith)
-  may-always (Block k) e = refl
-
-  few : (t : Bool) → ltb n 15 ≡ t → t ≡ ltb (length (nestOf n)) rules.deepest
-  few true e = sym (nest-few n (ltb-true n 15 e))
-  few false e = sym (nest-full n (ltb-false n 15 e))
-
-  pub may-open : (a : Action) → opensTransfer a ≡ true → ltb n 15 ≡ rules.mayStart (actionFor a) (nestOf n)
-  may-open Error e = let z : Different = cc in absurd (omega arith)
-  may-open Event e = let z : Different = cc in absurd (omega arith)
-  may-open (Address Set) e = let z : Different = cc in absurd (omega arith)
-  may-open (Address Execute) e = let z : Different = cc in absurd (omega arith)
-  may-open (Address Load) e = few (ltb n 15) refl
-  may-open (Address Save) e = few (ltb n 15) refl
-  may-open (Block k) e = let z : Different = cc in absurd (omega arith)
-
-  -- then there is room for one more
-  start-low : (a : Action) → n ≤ 30 → rules.mayStart (actionFor a) (nestOf n) ≡ true → n < nestRoom (Open a)
-  start-low a h may =
-      choice (λ (k : ℕ). n < k) (opensTransfer a) (λ e. ltb-true n 15 (may-open a e ∙ may)) (λ _. omega arith)
+-- where an action may start there is room for what it opens
+start-low : (n : ℕ) (a : Action) → n ≤ 30 → rules.mayStart (actionFor a) (nestOf n) ≡ true → n < nestRoom (Open a)
+start-low n a h may =
+    choice (λ (k : ℕ). n < k) (opensTransfer a) (λ e. ltb-true n 15 (may-open n a e ∙ may)) (λ _. omega arith)
 
 -- the transfer that an end closes, by the number of the open ones
 parity : (n : ℕ) → cond (eqb (n % 2) 1) rules.load rules.save ≡ transferFor (eqb (n % 2) 0)
@@ -194,10 +166,6 @@ parity n = go (eqb (n % 2) 1) refl
     go : (t : Bool) → eqb (n % 2) 1 ≡ t → cond t rules.load rules.save ≡ transferFor (eqb (n % 2) 0)
     go true e = rw (ne-eqb (n % 2) 0 (λ z. omega (arith, eqb-true (n % 2) 1 e))) refl
     go false e = let o = eqb-false (n % 2) 1 e in rw (eq-eqb (n % 2) 0 (omega arith)) refl
-
-save-told : (s : Bool) → variant.Ended s ≡ answerFor (rules.ended (transferFor s))
-save-told true = refl
-save-told false = refl
 
 -- none is open, or some are
 none-open : (l : Link) → l .nested ≡ 0 → nestOf (l .nested) ≡ []
@@ -236,7 +204,7 @@ module _ (l : Link) {x : Stepped} where
     transfer-ended n0 q reply own =
         let s = eqb (l .nested % 2) 0 in
         rw (open-top l u n0, parity (l .nested), q)
-        (nesting-gives l reply own (variant.Ended s) ((l .nested - 1) / 2) u (omega (arith, nested-low l u)) (omega arith) (save-told s))
+        (nesting-gives l reply own (variant.Ended s) ((l .nested - 1) / 2) u (omega (arith, nested-low l u)) (omega arith) (answer-back (variant.Ended s) reply own tt))
 
 -- an action that a mark starts has some bytes of its own
 pub start-some : (m : ℕ) {w : Meaning} {a : Action} → meaningFor w ≡ rules.meaningOf m → w ≡ Starts a → 0 < ownRoom (Open a)
@@ -253,10 +221,6 @@ module _ (l : Link) (m : ℕ) {x : Stepped} where
   pub mark-inside : {a : Action} → l .doing ≡ Open a → x ≡ refusedFrom l 5 → Mark-done l m x
   unfolding rules.meets
   mark-inside e q reply own = subst (MarkAt l reply own m x) (sym e) (rw q (refused-gives l reply own 5))
-
--- a finished reply has all its bytes in the lent ones
-all-told : (n b : ℕ) (s : List ℕ) → n < length s → length (take (n + 1) (set s n b)) ≡ n + 1
-all-told n b s h = length-take-le (n + 1) (set s n b) (simp length-set (omega arith))
 
 -- a data byte outside an action: of the innermost transfer
 module _ (l : Link) (reply : List ℕ) (b : ℕ) {x : Stepped} (u : usableOf l ≡ true) (n0 : l .nested ≡ 0 → ⊥) where
@@ -303,7 +267,7 @@ module _ (l : Link) (reply : List ℕ) (b : ℕ) {x : Stepped} (z : l .nested �
     reply-ended t q own =
         outer own (subst (ReplyAt l reply own b x (set reply (l .got) b)) (sym waits)
         (rw (length-take-le (l .got) reply (le-of-lt h), t, q, ← take-next reply (l .got) b h)
-        (resting-gives l (set reply (l .got) b) own (variant.Reply (l .got + 1)) Idle 0 (omega arith) (omega arith) (ap variant.Reply (sym (all-told (l .got) b reply h))))))
+        (resting-gives l (set reply (l .got) b) own (variant.Reply (l .got + 1)) Idle 0 (omega arith) (omega arith) (answer-back (variant.Reply (l .got + 1)) (set reply (l .got) b) own (simp length-set (omega arith))))))
 
 -- the last byte of an action's own stands behind the others
 at-before : (n b : ℕ) (own : List ℕ) (i : ℕ) → i < n → at (take n own) i ≡ at (set own n b) i
@@ -355,44 +319,6 @@ module _ (l : Link) (own : List ℕ) (b : ℕ) {x : Stepped} {a : Action} (is : 
         subst (DataAt l reply own b x reply (set own (l .held) b)) (sym is)
         (rw (length-take-le (l .held) own (le-of-lt h), t, finish-after a (l .held) b own (own-held l is u) h t) (g reply))
 
--- an error or restart, by its number and the length of its text
-failure-told : (n k : ℕ) → tagOf answers.the-type (failureFor n k) < 11
-failure-told n k = go (eqb n 0) (eqb k 0)
-  where
-    go : (t s : Bool) → tagOf answers.the-type (cond t (cond s variant.Restart (variant.Error n k)) (variant.Error n k)) < 11
-    go true true = omega arith
-    go true false = omega arith
-    go false s = omega arith
-
-pub failure-sized : (reply own : List ℕ) (n k : ℕ) → k ≤ length (drop 1 own) → failureFor n k ≡ answerFor (reportOf (failureFor n k) reply own)
-failure-sized reply own n k h = go (eqb n 0) (eqb k 0)
-  where
-    whole : variant.Error n k ≡ variant.Error n (length (take k (drop 1 own)))
-    whole = rw (length-take-le k (drop 1 own) h)
-
-    go : (t s : Bool) → let a = cond t (cond s variant.Restart (variant.Error n k)) (variant.Error n k) in a ≡ answerFor (reportOf a reply own)
-    go true true = refl
-    go true false = whole
-    go false s = whole
-
-failure-report : (reply : List ℕ) (n k : ℕ) (t : List ℕ) → k ≤ length t → reportOf (failureFor n k) reply (n ∷ t) ≡ rules.failure n (take k t)
-failure-report reply n zero t h = go (eqb n 0)
-  where
-    go : (s : Bool) → reportOf (cond s variant.Restart (variant.Error n 0)) reply (n ∷ t) ≡ cond s rules.restart (rules.error n [])
-    go true = refl
-    go false = refl
-failure-report reply n (suc k) [] h = absurd (omega arith)
-failure-report reply n (suc k) (b ∷ t) h = rw (ne-eqb (suc k) 0 (λ e. omega arith)) (go (eqb n 0))
-  where
-    go : (s : Bool) → reportOf (cond s (variant.Error n (suc k)) (variant.Error n (suc k))) reply (n ∷ b ∷ t) ≡ rules.error n (b ∷ take k t)
-    go true = refl
-    go false = refl
-
-pub failure-of : (reply own : List ℕ) (n : ℕ) → 1 ≤ n → n ≤ length own → reportOf (failureFor (at own 0) (n - 1)) reply own ≡ rules.failureOf (take n own)
-failure-of reply [] n low high = absurd (omega arith)
-failure-of reply (x ∷ own) zero low high = absurd (omega arith)
-failure-of reply (x ∷ own) (suc n) low high = let e : suc n - 1 ≡ n = omega arith in rw e (failure-report reply x n own (omega arith))
-
 -- an action with all its bytes: an error, an event, a control block, four address bytes by what they are for
 abbrev Ended : Link → List ℕ → Stepped → (Answer → Stepped) → Action → Type 0
 Ended l own x f a = x ≡ f (toldBy a (l .held) own) → Finished-done l a own x
@@ -432,7 +358,7 @@ module _ (l : Link) (own : List ℕ) {x : Stepped} {a : Action} where
     unfolding rules.meets
     block-ended is h =
         subst (Ended l own x (quietly l)) (sym is) (λ q reply.
-        rw q (quiet-gives l reply own (variant.Block (l .held + 1)) u (omega arith) (ap variant.Block (sym (length-take-le (l .held + 1) own (omega arith))))))
+        rw q (quiet-gives l reply own (variant.Block (l .held + 1)) u (omega arith) (answer-back (variant.Block (l .held + 1)) reply own (omega arith))))
 
     pub address-ended : {t : Target} → a ≡ Address t → l .nested < nestRoom (Open a) → Ended l own x (placedFrom l t) a
     address-ended {t} is low =

@@ -17,12 +17,13 @@ use Rattle.link.specs.declared.Wait.the-variants.{Idle, Waiting}
 use Rattle.link.specs.declared.Doing.{Doing}
 use Rattle.link.specs.declared.Doing.the-variants.{Quiet}
 use Rattle.link.specs.declared.Link.{Link}
-use Rattle.link.specs.declared.Answer.{Answer}
-use Rattle.link.specs.declared.Answer.the-variants as variant
+use Rattle.answers.specs.declared.Answer.{Answer}
+use Rattle.answers.specs.declared.Answer.the-variants as variant
 use Rattle.link.specs.declared.Stepped.{Stepped}
 use Rattle.link.specs.declared.Begun.{Begun}
 use Rattle.link.specs.declared.Started.{Started}
-use Rattle.link.specs.View.{waitFor, doingFor, usableOf, viewOf, reportOf, answerFor, tokenLent, doingLent, stoppedFrom}
+use Rattle.link.specs.View.{waitFor, doingFor, usableOf, viewOf, tokenLent, doingLent, stoppedFrom}
+use Rattle.answers.specs.Reports.{reportOf, answerFor}
 
 abbrev pub begunFrom : Link → Begun → Started
 begunFrom l a = record { answer = a; link = l }

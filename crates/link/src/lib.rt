@@ -2,21 +2,19 @@
 use actions::Action;
 use actions::Meaning;
 use actions::Target;
+use answers::Answer;
 use escape::Piece;
 use kind::CallKind;
 use turns::Turn;
-ghost use Prim.Native.Nat.{_-_, _<_, _≤_};
+ghost use Prim.Native.Nat.{_<_, _≤_};
 ghost use mathlib.Core.Path.{_≡_};
 ghost use mathlib.Core.Bool.{true};
 ghost use lib.ListN.{length};
-ghost use Rattle.serial_rules.specs.Link.{mayStart};
-ghost use Rattle.serial_rules.specs.Nest.{nestOf};
-ghost use Rattle.actions.specs.Actions.{actionFor};
 ghost use Rattle.actions.specs.declared.Action.the-variants.{Error, Address};
 ghost use Rattle.link.specs.declared.Wait.the-variants.{Waiting};
 ghost use Rattle.link.specs.declared.Doing.the-variants.{Open};
 ghost use Rattle.kind.specs.Kinds.{replyLent};
-ghost use Rattle.link.specs.View.{replyRoom, ownRoom, nestRoom, usableOf, ownLent, toldBy, failureFor, fresh, Begin-done, Begin-none-done, Step-done};
+ghost use Rattle.link.specs.View.{replyRoom, ownRoom, nestRoom, usableOf, ownLent, fresh, Begin-done, Begin-none-done, Step-done};
 ghost use Rattle.link.specs.Parts.{begunFrom, barredBy, refusedFrom, pausedFrom, goingFrom, nestingFrom, restingWith, Mark-done, Opening-done, Start-done, Closing-done, Data-done, Reply-byte-done, Own-done, Finished-done, placedFrom};
 
 // What waits: nothing, or one call of a kind.
@@ -42,39 +40,6 @@ pub struct Link {
     pub held: u16,
     pub nested: u8,
     pub stopped: bool,
-}
-
-// What a raw byte gives: more is needed; a character; a finished reply, the first bytes of the lent reply; the Escape state; an event; an
-// address and what it is for, high byte first; a control block, the first bytes of the other lent bytes; a byte of load data; the end of a
-// load or save; an error, whose text stands in the other lent bytes from the second on; a restart; or a refusal by document 01's number.
-pub enum Answer {
-    More,
-    Character(u8),
-    Reply(usize),
-    EscapeState(bool),
-    Event {
-        y: u8,
-        x: u8,
-        a: u8,
-    },
-    Address {
-        target: Target,
-        b3: u8,
-        b2: u8,
-        b1: u8,
-        b0: u8,
-    },
-    Block(usize),
-    Loaded(u8),
-    Ended {
-        save: bool,
-    },
-    Error {
-        number: u8,
-        length: usize,
-    },
-    Restart,
-    Refused(u8),
 }
 
 pub struct Stepped {
@@ -274,7 +239,7 @@ impl Link {
         requires { ⌜ (usableOf self ≡ true) × (0 < ownRoom (Open action)) ⌝ }
         ensures { λ r. ⌜ Start-done self action r ⌝ }
     {
-        if may_start(self.nested, action) {
+        if action.may_start(self.nested) {
             return self.going(Answer::More, Doing::Open(action), 0);
         }
         self.refused(13)
@@ -382,7 +347,7 @@ impl Link {
         requires { ⌜ (usableOf self ≡ true) × (action ≡ Error → 1 ≤ self .held) × (self .nested < nestRoom (Open action)) × (self .held < ownLent) × (length (now own) ≡ ownLent) ⌝ }
         ensures { λ r. ⌜ Finished-done self action (now (own .entry)) r ⌝ }
     {
-        let answer = told_by(action, self.held, own);
+        let answer = answers::told_by(action, self.held, own);
         match action {
             Action::Error => resting(answer, Wait::Idle, 0),
             Action::Event => self.going(answer, Doing::Quiet, 0),
@@ -514,63 +479,5 @@ fn nest_room(doing: Doing) -> u8
             }
             31
         }
-    }
-}
-
-// Whether an action may start where the transfers of a number are open: at most four may be.
-fn may_start(nested: u8, action: Action) -> bool
-    requires { ⌜ nested ≤ 30 ⌝ }
-    ensures { λ r. ⌜ r ≡ mayStart (actionFor action) (nestOf nested) ⌝ }
-{
-    if action.opens_transfer() {
-        return nested < 15;
-    }
-    true
-}
-
-// What an action with all its bytes tells: `held` of them and the last one are the first of the bytes lent for its own.
-pub fn told_by(action: Action, held: u16, own: &[u8]) -> Answer
-    ensures { λ r. ⌜ r ≡ toldBy action held (now (own .entry)) ⌝ }
-{
-    match action {
-        Action::Error => failure(places::byte_at(own, 0), text_length(held)),
-        Action::Event => Answer::Event {
-            y: places::byte_at(own, 0),
-            x: places::byte_at(own, 1),
-            a: places::byte_at(own, 2),
-        },
-        Action::Address(target) => Answer::Address {
-            target: target,
-            b3: places::byte_at(own, 0),
-            b2: places::byte_at(own, 1),
-            b1: places::byte_at(own, 2),
-            b0: places::byte_at(own, 3),
-        },
-        Action::Block(_) => Answer::Block(held as usize + 1),
-    }
-}
-
-// The text of an error stands behind its number.
-fn text_length(held: u16) -> usize
-    ensures { λ r. ⌜ r ≡ held - 1 ⌝ }
-{
-    if held == 0 {
-        return 0;
-    }
-    held as usize - 1
-}
-
-// Error 0 with an empty text is a restart.
-fn failure(number: u8, length: usize) -> Answer
-    ensures { λ r. ⌜ r ≡ failureFor number length ⌝ }
-{
-    if number == 0 {
-        if length == 0 {
-            return Answer::Restart;
-        }
-    }
-    Answer::Error {
-        number: number,
-        length: length,
     }
 }

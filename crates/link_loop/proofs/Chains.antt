@@ -10,7 +10,8 @@ use Rattle.serial_rules.specs.Link as rules
 use Rattle.serial_rules.specs.Record.{passes}
 use Rattle.link.specs.declared.Link.{Link}
 use Rattle.link.specs.declared.Stepped.{Stepped}
-use Rattle.link.specs.View.{reportOf, Step-done}
+use Rattle.link.specs.View.{Step-done}
+use Rattle.answers.specs.Reports.{reportOf}
 use Rattle.link_loop.specs.Run.{Runs, stop, took, Passed, none, next}
 
 pub runs-more : {l q : Link} {reply own reply-mid own-mid reply-end own-end raw : List ℕ} {x : ℕ} {o : Stepped} {reports : List rules.Report}

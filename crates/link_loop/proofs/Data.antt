@@ -17,7 +17,8 @@ use Rattle.link.specs.declared.Doing.{Doing}
 use Rattle.link.specs.declared.Doing.the-variants.{Quiet, Open}
 use Rattle.link.specs.declared.Link.{Link}
 use Rattle.serial_rules.specs.Nest.{nestOf}
-use Rattle.link.specs.View.{waitFor, doingFor, ownRoom, usableOf, viewOf, reportOf}
+use Rattle.link.specs.View.{waitFor, doingFor, ownRoom, usableOf, viewOf}
+use Rattle.answers.specs.Reports.{reportOf}
 use Rattle.link.proofs.Steps.{usable-held}
 use Rattle.notes.specs.Notes.{Given, adds, addsAll}
 use Rattle.notes.proofs.Counts.{contentIn, content-more}

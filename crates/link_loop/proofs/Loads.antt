@@ -15,7 +15,7 @@ use Rattle.turns.proofs.Plain.{run-all, run-most}
 use Rattle.link.specs.declared.Doing.{Doing}
 use Rattle.link.specs.declared.Doing.the-variants.{Quiet, Open}
 use Rattle.link.specs.declared.Link.{Link}
-use Rattle.link.specs.declared.Answer.the-variants as variant
+use Rattle.answers.specs.declared.Answer.the-variants as variant
 use Rattle.link.specs.View.{ownRoom, usableOf, Step-done}
 use Rattle.link.proofs.Steps.{usable-live, usable-held, data-loaded, data-outside, at-data}
 use Rattle.notes.specs.declared.Log.{Log}

@@ -13,11 +13,12 @@ use Rattle.escape.specs.Put.{over}
 use Rattle.serial_rules.specs.Link as rules
 use Rattle.serial_rules.specs.Record.{passes}
 use Rattle.link.specs.declared.Link.{Link}
-use Rattle.link.specs.declared.Answer.{Answer}
-use Rattle.link.specs.declared.Answer.the-variants as variant
+use Rattle.answers.specs.declared.Answer.{Answer}
+use Rattle.answers.specs.declared.Answer.the-variants as variant
 use Rattle.link.specs.declared.Stepped.{Stepped}
 use Rattle.link.specs.View as link-view
-use Rattle.link.specs.View.{ownLent, viewOf, reportOf, answerFor, Step-done}
+use Rattle.link.specs.View.{ownLent, viewOf, Step-done}
+use Rattle.answers.specs.Reports.{reportOf, answerFor}
 use Rattle.notes.specs.declared.Log.{Log}
 use Rattle.notes.specs.Notes.{Given, nothing, addsAll, notesOf, dataOf}
 use Rattle.notes.specs.Logs.{fresh, Holds, dataIn, mostCount, countable, Add-done}
@@ -26,7 +27,8 @@ use Rattle.notes.proofs.Counts.{contentIn, data-counted, adds-append, adds-snoc
 use Rattle.link_loop.specs.declared.Ran.{Ran}
 use Rattle.link_loop.specs.declared.Taken.{Taken}
 use Rattle.link_loop.specs.Run.{Runs, stop, Passed, none, next, lastOf, lacksRoom, Ran-done, Run-done}
-use Rattle.link_loop.specs.Parts.{endedFrom, endsOf, gotFrom, Take-done, Load-pass-done}
+use Rattle.link_loop.specs.Parts.{endedFrom, gotFrom, Take-done, Load-pass-done}
+use Rattle.answers.specs.Reports.{endsOf}
 use Rattle.link_loop.proofs.Chains.{runs-more, runs-join, passed-more, passed-waits, passed-loads, tail-all}
 use Rattle.link_loop.proofs.Data.{step-data, view-held, data-short, runs-data, runs-length}
 

@@ -22,9 +22,10 @@ use Rattle.kind.specs.declared.CallKind.{CallKind}
 use Rattle.shapes.proofs.Ahead.{ahead-more, ahead-fits}
 use Rattle.link.specs.declared.Wait.{Wait}
 use Rattle.link.specs.declared.Link.{Link}
-use Rattle.link.specs.declared.Answer.the-variants as variant
+use Rattle.answers.specs.declared.Answer.the-variants as variant
 use Rattle.link.specs.declared.Stepped.{Stepped}
-use Rattle.link.specs.View.{usableOf, viewOf, reportOf, Step-done}
+use Rattle.link.specs.View.{usableOf, viewOf, Step-done}
+use Rattle.answers.specs.Reports.{reportOf}
 use Rattle.link_loop.specs.Run.{Runs, stop, took, next}
 use Rattle.link_loop.specs.Parts.{midReply}
 use Rattle.link.proofs.Steps.{reply-more, data-outside, at-data}

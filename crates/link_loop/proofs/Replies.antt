@@ -26,9 +26,10 @@ use Rattle.shapes.proofs.Ahead.{ahead-fits}
 use Rattle.link.specs.declared.Wait.the-variants.{Waiting, Idle}
 use Rattle.link.specs.declared.Doing.the-variants.{Quiet}
 use Rattle.link.specs.declared.Link.{Link}
-use Rattle.link.specs.declared.Answer.the-variants as variant
+use Rattle.answers.specs.declared.Answer.the-variants as variant
 use Rattle.link.specs.declared.Stepped.{Stepped}
-use Rattle.link.specs.View.{usableOf, reportOf}
+use Rattle.link.specs.View.{usableOf}
+use Rattle.answers.specs.Reports.{reportOf}
 use Rattle.link.specs.Parts.{restingWith, Reply-byte-done}
 use Rattle.link.proofs.Steps.{reply-more, reply-ended, data-outside, at-data, at-pending}
 use Rattle.link_loop.specs.declared.Taken.{Taken}

@@ -6,14 +6,13 @@ use mathlib.Core.List.{List, [], _∷_, _++_, map}
 use lib.Dec.{eqb}
 use lib.ListN.{length, take, replicate}
 use Rattle.serial_rules.specs.Link as rules
-use Rattle.serial_rules.specs.Record.{passes}
 use Rattle.link.specs.declared.Link.{Link}
-use Rattle.link.specs.declared.Answer.{Answer}
+use Rattle.answers.specs.declared.Answer.{Answer}
 use Rattle.kind.specs.declared.CallKind.{CallKind}
 use Rattle.link.specs.declared.Doing.{Doing}
 use Rattle.link.specs.declared.Doing.the-variants.{Quiet, Open}
 use Rattle.link.specs.declared.Wait.the-variants.{Waiting}
-use Rattle.link.specs.View.{fresh, reportOf}
+use Rattle.link.specs.View.{fresh}
 use Rattle.notes.specs.declared.Log.{Log}
 use Rattle.notes.specs.Notes.{Given, addsAll}
 use Rattle.notes.specs.Logs.{Holds}
@@ -24,10 +23,6 @@ use Rattle.link_loop.specs.Run.{Runs}
 -- what the loop leaves
 abbrev pub endedFrom : Link → Answer → ℕ → Log → Ran
 endedFrom l a used log = record { answer = a; used = used; noted = log .noted; stored = log .stored; link = l }
-
--- Whether an answer ends the loop, which does not ask for the lent bytes.
-abbrev pub endsOf : Answer → Bool
-endsOf a = not (passes (reportOf a [] []))
 
 -- the link with so many bytes of its reply
 abbrev pub gotFrom : Link → ℕ → Link

@@ -9,11 +9,12 @@ use Rattle.escape.specs.Put.{over}
 use Rattle.serial_rules.specs.Link as rules
 use Rattle.serial_rules.specs.Record.{passes}
 use Rattle.link.specs.declared.Link.{Link}
-use Rattle.link.specs.declared.Answer.{Answer}
-use Rattle.link.specs.declared.Answer.the-variants as variant
+use Rattle.answers.specs.declared.Answer.{Answer}
+use Rattle.answers.specs.declared.Answer.the-variants as variant
 use Rattle.link.specs.declared.Stepped.{Stepped}
 use Rattle.link_loop.specs.declared.Ran.{Ran}
-use Rattle.link.specs.View.{reportOf, answerFor, Step-done}
+use Rattle.link.specs.View.{Step-done}
+use Rattle.answers.specs.Reports.{reportOf, answerFor}
 use Rattle.notes.specs.Notes.{notesOf, dataOf}
 
 -- from a link and its lent bytes, over raw bytes, with the reports, to the link and the lent bytes left

@@ -1,7 +1,7 @@
 // The loop over raw bytes: it passes over what is not a reply, and loses nothing that was reported.
+use answers::Answer;
 use escape::Unit;
 use kind::CallKind;
-use link::Answer;
 use link::Doing;
 use link::Link;
 use link::Wait;
@@ -14,7 +14,7 @@ ghost use lib.ListN.{length};
 ghost use Rattle.kind.specs.Kinds.{replyLent};
 ghost use Rattle.link.specs.View.{usableOf};
 ghost use Rattle.link_loop.specs.Run.{lacksRoom, Run-done};
-ghost use Rattle.link_loop.specs.Parts.{endedFrom, endsOf, takenAs, gotFrom, inReply, midReply, Take-done, inLoad, Load-pass-done};
+ghost use Rattle.link_loop.specs.Parts.{endedFrom, takenAs, gotFrom, inReply, midReply, Take-done, inLoad, Load-pass-done};
 
 // Where the loop ended: a finished reply, an error or restart, a refusal, or need-more at the end of its raw bytes; how many of them it used;
 // how many notes and how many bytes of data it wrote; the link.
@@ -66,7 +66,7 @@ pub fn run(
         let answer = s.answer;
         at = s.link;
         i += 1;
-        if ends(answer) {
+        if answers::ends(answer) {
             return ended(at, answer, i, log);
         }
         let noted = log.add(answer, own, room, content);
@@ -245,34 +245,5 @@ fn ended(link: Link, answer: Answer, used: usize, log: Log) -> Ran
         noted: log.noted,
         stored: log.stored,
         link: link,
-    }
-}
-
-// Whether an answer ends the loop.
-fn ends(answer: Answer) -> bool
-    ensures { λ r. ⌜ r ≡ endsOf answer ⌝ }
-{
-    match answer {
-        Answer::More => false,
-        Answer::Character(_) => false,
-        Answer::Reply(_) => true,
-        Answer::EscapeState(_) => false,
-        Answer::Event { y: _, x: _, a: _ } => false,
-        Answer::Address {
-            target: _,
-            b3: _,
-            b2: _,
-            b1: _,
-            b0: _,
-        } => false,
-        Answer::Block(_) => false,
-        Answer::Loaded(_) => false,
-        Answer::Ended { save: _ } => false,
-        Answer::Error {
-            number: _,
-            length: _,
-        } => true,
-        Answer::Restart => true,
-        Answer::Refused(_) => true,
     }
 }

@@ -7,7 +7,7 @@ use mathlib.Core.List.{List, [], _∷_, _++_, append-nil}
 use lib.Dec.{ltb}
 use lib.ListN.{length, replicate, length-append}
 use Rattle.serial_rules.specs.Link.{Report, needMore, character, reply, escapeState, event, address, block, loaded, ended, error, restart, refusal}
-use Rattle.link.specs.View.{answerFor}
+use Rattle.answers.specs.Reports.{answerFor}
 use Rattle.notes.specs.Notes.{Given, given, runNote, notesIn, noted, longestRun, adds, addsAll}
 use Rattle.notes.specs.Logs.{dataIn}
 use Rattle.notes.proofs.Laws.{run-length}

@@ -16,9 +16,9 @@ use Rattle.serial_rules.specs.Link as rules
 use Rattle.serial_rules.proofs.Trip.{and-both}
 use Rattle.turns.specs.Plain.{isData}
 use Rattle.turns.proofs.Plain.{run-most}
-use Rattle.link.specs.declared.Answer.{Answer}
-use Rattle.link.specs.declared.Answer.the-variants as variant
-use Rattle.link.specs.View.{transferFor}
+use Rattle.answers.specs.declared.Answer.{Answer}
+use Rattle.answers.specs.declared.Answer.the-variants as variant
+use Rattle.answers.specs.Reports.{transferFor}
 use Rattle.notes.specs.declared.Log.{Log}
 use Rattle.notes.specs.Notes.{Given, given, nothing, runNote, notesIn, noted, longestRun, transferNumber, adds, addsAll}
 use Rattle.notes.specs.Logs.{fresh, Lays, Holds, dataIn, mostCount, countable, goesOn, Wrote, notedIn, startedIn, grownBy, Unchanged, Noted, Block-done, Loaded-done, Logs, Added, Add-done, joins, joinable, Joined-done, Add-run-done}

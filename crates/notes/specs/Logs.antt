@@ -8,9 +8,9 @@ use lib.ListN.{length, take, drop}
 use Rattle.escape.specs.Put.{over}
 use Rattle.serial_rules.specs.Link as rules
 use Rattle.turns.specs.Plain.{isData, runOf}
-use Rattle.link.specs.declared.Answer.{Answer}
-use Rattle.link.specs.declared.Answer.the-variants as variant
-use Rattle.link.specs.View.{reportOf}
+use Rattle.answers.specs.declared.Answer.{Answer}
+use Rattle.answers.specs.declared.Answer.the-variants as variant
+use Rattle.answers.specs.Reports.{reportOf}
 use Rattle.notes.specs.declared.Log.{Log}
 use Rattle.notes.specs.Notes.{Given, notesIn, noteOf, longestRun}
 

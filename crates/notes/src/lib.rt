@@ -1,7 +1,7 @@
 // Notes of what a reader of many bytes passed over, and the load data and control blocks among it, written into lent bytes: as far as these have
 // room, and counted where they have none, so that the same reader measures what it needs.
 use actions::Target;
-use link::Answer;
+use answers::Answer;
 ghost use Prim.Native.Nat.{_+_, _*_, _-_, _≤_, _<_};
 ghost use mathlib.Core.Path.{_≡_};
 ghost use mathlib.Core.Bool.{true, cond};

@@ -30,8 +30,8 @@ use Rattle.turns.proofs.Plain.{done-plains, done-most, part-sets}
 use Rattle.shapes.specs.Ahead.{aheadOf}
 use Rattle.kind.specs.Kinds.{kindFor, replyLent}
 use Rattle.kind.specs.declared.CallKind.{CallKind}
-use Rattle.link.specs.declared.Answer.{Answer}
-use Rattle.link.specs.declared.Answer.the-variants as variant
+use Rattle.answers.specs.declared.Answer.{Answer}
+use Rattle.answers.specs.declared.Answer.the-variants as variant
 use Rattle.link.specs.declared.Link.{Link}
 use Rattle.link.specs.declared.Begun.{Begun}
 use Rattle.link.specs.declared.Started.{Started}

@@ -14,7 +14,7 @@ use Rattle.serial_rules.specs.Record.{recording, recorded}
 use Rattle.turns.specs.Plain.{Plains}
 use Rattle.kind.specs.Kinds.{kindFor}
 use Rattle.kind.specs.declared.CallKind.{CallKind}
-use Rattle.link.specs.declared.Answer.{Answer}
+use Rattle.answers.specs.declared.Answer.{Answer}
 use Rattle.notes.specs.declared.Log.{Log}
 use Rattle.notes.specs.Logs.{fresh}
 use Rattle.action_bytes.specs.Parts.{outcomeOf, answerOf}

@@ -12,7 +12,7 @@ use Rattle.serial_rules.specs.Record as record-rules
 use Rattle.serial_rules.specs.Record.{Outcome, ranOut, closed, recordedReply}
 use Rattle.kind.specs.Kinds.{kindFor}
 use Rattle.kind.specs.declared.CallKind.{CallKind}
-use Rattle.link.specs.declared.Answer.the-variants as variant
+use Rattle.answers.specs.declared.Answer.the-variants as variant
 use Rattle.notes.specs.Notes.{notesOf, dataOf}
 pub use Rattle.action_bytes.specs.Parts.{answerOf}
 use Rattle.recorded.specs.declared.Recorded.{Recorded}

@@ -1,7 +1,7 @@
 // The reader of a whole recorded reply, the raw bytes that came behind one call.
+use answers::Answer;
 use escape::Unit;
 use kind::CallKind;
-use link::Answer;
 use link::Begun;
 use link::Link;
 use notes::Log;

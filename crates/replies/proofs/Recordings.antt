@@ -1,7 +1,7 @@
 -- Both readers of a reply: the loop over raw bytes, from a fresh link with the call begun, and the reader of a whole recorded reply stop at the same byte, with
 -- the same actions, load data and outcome.
 use Prim.Native.Nat.{ℕ, suc, _+_, _*_, _≤_}
-use native.Mathlib.Nat.{add-zero, add-suc}
+use native.Mathlib.Nat.{add-zero}
 use native.Mathlib.Omega.{arith}
 use mathlib.Core.Path.{_≡_, refl, sym, ap, subst, _∙_}
 use mathlib.Core.Bool.{Bool, true, false, cond}
@@ -15,17 +15,18 @@ use Rattle.serial_rules.specs.Reply.{shapeOf, longest}
 use Rattle.serial_rules.specs.Link as rules
 use Rattle.serial_rules.specs.Session.{between}
 use Rattle.serial_rules.specs.Record as recordings
-use Rattle.serial_rules.specs.Record.{passes, news, Outcome, ranOut, closed, recording, give, reported, recorded, recordedReply}
+use Rattle.serial_rules.specs.Record.{passes, news, Outcome, ranOut, closed, recording, give, recorded, recordedReply}
 use Rattle.kind.specs.Kinds.{kindFor}
 use Rattle.kind.specs.declared.CallKind.{CallKind}
 use Rattle.link.specs.declared.Link.{Link}
-use Rattle.link.specs.declared.Answer.{Answer}
-use Rattle.link.specs.declared.Answer.the-variants as variant
+use Rattle.answers.specs.declared.Answer.{Answer}
+use Rattle.answers.specs.declared.Answer.the-variants as variant
 use Rattle.link.specs.declared.Begun.the-variants.{Waits, Complete}
 use Rattle.link.specs.declared.Started.{Started}
-use Rattle.link.specs.View.{viewOf, reportOf, answerFor, fresh, begunOf, Begin-done}
+use Rattle.link.specs.View.{viewOf, fresh, begunOf, Begin-done}
+use Rattle.answers.specs.Reports.{reportOf}
 use Rattle.notes.specs.Notes.{Given, nothing, adds, addsAll, notesIn, notesOf, dataOf}
-use Rattle.notes.proofs.Counts.{contentIn, content-more, adds-append, notes-most}
+use Rattle.notes.proofs.Counts.{content-more, notes-most}
 use Rattle.link_loop.specs.declared.Ran.{Ran}
 use Rattle.link_loop.specs.Run.{Runs, stop, took, Passed, none, next, lastOf, lacksRoom, Ran-done, Run-done}
 use Rattle.link_loop.proofs.Notes.{last-is}

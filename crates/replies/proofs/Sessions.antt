@@ -11,10 +11,11 @@ use Rattle.serial_rules.proofs.Session.{layers-told, layers-after, weave}
 use Rattle.serial_rules.proofs.Actions.{actions-pass, error-ends-call}
 use Rattle.serial_rules.proofs.Depth.{fresh-within, reply-outside}
 use Rattle.link.specs.declared.Link.{Link}
-use Rattle.link.specs.declared.Answer.{Answer}
-use Rattle.link.specs.declared.Answer.the-variants as variant
+use Rattle.answers.specs.declared.Answer.{Answer}
+use Rattle.answers.specs.declared.Answer.the-variants as variant
 use Rattle.link.specs.declared.Stepped.{Stepped}
-use Rattle.link.specs.View.{usableOf, viewOf, reportOf, fresh, Step-done}
+use Rattle.link.specs.View.{usableOf, viewOf, fresh, Step-done}
+use Rattle.answers.specs.Reports.{reportOf}
 use Rattle.link_loop.specs.Run.{Runs}
 use Rattle.replies.specs.Sessions.{Sessions, stop, took, began}
 

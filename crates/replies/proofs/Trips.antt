@@ -23,7 +23,8 @@ use Rattle.kind.specs.declared.CallKind.{CallKind}
 use Rattle.link.specs.declared.Link.{Link}
 use Rattle.link.specs.declared.Stepped.{Stepped}
 use Rattle.link.specs.declared.Started.{Started}
-use Rattle.link.specs.View.{usableOf, viewOf, reportOf, begunOf, fresh, Step-done, Begin-done}
+use Rattle.link.specs.View.{usableOf, viewOf, begunOf, fresh, Step-done, Begin-done}
+use Rattle.answers.specs.Reports.{reportOf}
 use Rattle.reply.specs.declared.Reply.{Reply}
 use Rattle.reply.specs.declared.Given.{Given}
 use Rattle.reply.specs.Promise.{replyFor, givenIn, Read-done}

@@ -7,7 +7,8 @@ use Rattle.kind.specs.declared.CallKind.{CallKind}
 use Rattle.link.specs.declared.Link.{Link}
 use Rattle.link.specs.declared.Stepped.{Stepped}
 use Rattle.link.specs.declared.Started.{Started}
-use Rattle.link.specs.View.{reportOf, begunOf, Step-done, Begin-done}
+use Rattle.link.specs.View.{begunOf, Step-done, Begin-done}
+use Rattle.answers.specs.Reports.{reportOf}
 
 -- from a link and its lent bytes, over inputs, with what is told, to the link and the lent bytes left
 pub data Sessions : Link → List ℕ → List ℕ → List Input → List Told → Link → List ℕ → List ℕ → Type 0 where

@@ -13,9 +13,9 @@ use Rattle.serial_rules.specs.Link as rules
 use Rattle.actions.specs.Actions.{meaningFor}
 use Rattle.actions.specs.declared.Meaning.{Meaning}
 use Rattle.actions.specs.declared.Meaning.the-variants as meaning
-use Rattle.link.specs.declared.Answer.{Answer}
-use Rattle.link.specs.declared.Answer.the-variants as variant
-use Rattle.link.specs.View.{transferFor, reportOf}
+use Rattle.answers.specs.declared.Answer.{Answer}
+use Rattle.answers.specs.declared.Answer.the-variants as variant
+use Rattle.answers.specs.Reports.{transferFor, reportOf}
 use Rattle.notes.specs.declared.Log.{Log}
 use Rattle.notes.specs.Logs.{mostCount, Add-done}
 use Rattle.action_bytes.specs.declared.Began.{Began}

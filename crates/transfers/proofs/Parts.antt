@@ -10,9 +10,9 @@ use borrow.Author.Tests.{lt-ltb, le-leb}
 use Rattle.serial_rules.specs.Link as rules
 use Rattle.turns.specs.Plain.{isData, none}
 use Rattle.turns.proofs.Plain.{run-all}
-use Rattle.link.specs.declared.Answer.{Answer}
-use Rattle.link.specs.declared.Answer.the-variants as variant
-use Rattle.link.specs.View.{reportOf}
+use Rattle.answers.specs.declared.Answer.{Answer}
+use Rattle.answers.specs.declared.Answer.the-variants as variant
+use Rattle.answers.specs.Reports.{reportOf}
 use Rattle.notes.specs.declared.Log.{Log}
 use Rattle.notes.specs.Notes.{Given, longestRun, adds, addsAll}
 use Rattle.notes.specs.Logs.{Holds, dataIn, mostCount, countable, Add-done, joins, joinable, Add-run-done}

@@ -8,8 +8,8 @@ use Rattle.serial_rules.specs.Link as rules
 use Rattle.turns.specs.Plain.{isData, All}
 use Rattle.actions.specs.declared.Meaning.{Meaning}
 use Rattle.actions.specs.declared.Meaning.the-variants.{Unknown, State, End, Starts}
-use Rattle.link.specs.declared.Answer.{Answer}
-use Rattle.link.specs.View.{transferFor, reportOf}
+use Rattle.answers.specs.declared.Answer.{Answer}
+use Rattle.answers.specs.Reports.{transferFor, reportOf}
 use Rattle.notes.specs.declared.Log.{Log}
 use Rattle.notes.specs.Notes.{Given, addsAll}
 use Rattle.notes.specs.Logs.{Holds, Add-done, Add-run-done}

@@ -2,8 +2,8 @@
 // action reader calls the body of the transfer that an action opens: what remains of the recording falls at each call.
 use action_bytes::Began;
 use actions::Meaning;
+use answers::Answer;
 use escape::Unit;
-use link::Answer;
 use link::Link;
 use notes::Log;
 ghost use Prim.Native.Nat.{_≤_, min};

@@ -3,19 +3,19 @@ use Prim.Native.Nat.{ℕ, zero, suc, _+_, _-_, _≤_, _<_}
 use native.Mathlib.Nat.{zero-add}
 use native.Mathlib.Numerals.{add-one, unary-clauses}
 use native.Mathlib.Omega.{arith}
-use mathlib.Core.Path.{_≡_, refl, ap, _∙_}
+use mathlib.Core.Path.{_≡_, refl, sym, ap, _∙_}
 use mathlib.Core.Bool.{Bool, true, false, cond, not}
 use mathlib.Core.List.{List, [], _∷_, _++_, append-assoc}
-use borrow.Author.Tests.{not-true}
-use lib.Dec.{eqb}
+use borrow.Author.Tests.{not-true, ltb-false}
+use lib.Dec.{eqb, ltb}
 use lib.ListN.{length, take, drop, getD, set, length-drop, drop-of-length-le, take-append-drop}
 use lib.Seq.{length-take-le, drop-cons, drop-append-le, drop-drop, sets, sets-eq}
-use Rattle.serial_rules.specs.Escape.{escape}
+use Rattle.serial_rules.specs.Escape.{escape, escapes}
 use Rattle.serial_rules.specs.Call.{return}
 use Rattle.serial_rules.proofs.Trip.{and-both}
 use Rattle.escape.specs.Put.{Put}
 use Rattle.escape.proofs.Laws.{put-none, put-next}
-use Rattle.turns.specs.Plain.{plain, All, none, one, Plains, runOf, Plain-done}
+use Rattle.turns.specs.Plain.{plain, isData, All, none, one, Plains, runOf, Plain-done}
 
 -- a plain byte is neither
 module _ (b : ℕ) (h : plain b ≡ true) where
@@ -144,3 +144,17 @@ part-sets {raw} {left} {r} l at size h d =
 pub sum-fits : (w m count n : ℕ) → m < w → count < w → (0 < n → count + n ≤ m) → count + n < w
 sum-fits w m count zero big h k = omega arith
 sum-fits w m count (suc n) big h k = omega (arith, k (omega arith))
+
+-- Without an escape byte among them, all are of the run.
+clear : (n : ℕ) (l : List ℕ) → n ≤ length l → escapes (take n l) ≡ 0 → runOf isData n l ≡ n
+unfolding runOf escapes
+clear zero l h e = refl
+clear (suc n) [] h e = absurd (omega arith)
+clear (suc n) (b ∷ l) h e = go (eqb b escape) refl (λ k. clear n l (omega arith) k)
+  where
+    go : (t : Bool) → eqb b escape ≡ t → (escapes (take n l) ≡ 0 → runOf isData n l ≡ n) → cond (not (eqb b escape)) (suc (runOf isData n l)) 0 ≡ suc n
+    go true f rest = absurd (omega (arith, rw f at e))
+    go false f rest = rw f (ap suc (rest (omega (arith, rw f at e))))
+
+pub run-clear : (n : ℕ) (l : List ℕ) {found : Bool} → n ≤ length l → found ≡ ltb 0 (escapes (take n l)) → found ≡ false → n ≡ runOf isData n l
+run-clear n l h e is = sym (clear n l h (omega (arith, ltb-false 0 (escapes (take n l)) (sym e ∙ is))))

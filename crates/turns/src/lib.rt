@@ -55,8 +55,20 @@ pub fn copy_plain(raw: &[u8], out: &mut [u8]) -> usize
     i
 }
 
-// How many bytes at the start of `raw` are not an escape, at most so many.
+// How many bytes at the start of `raw` are not an escape, at most so many. Most often all of them are not, which is tested many bytes at once.
 pub fn data_ahead(raw: &[u8], most: usize) -> usize
+    ensures { λ r. ⌜ r ≡ runOf isData most (now (raw .entry)) ⌝ }
+{
+    if most <= raw.len() {
+        if !escape::has_escape(&raw[..most]) {
+            return most;
+        }
+    }
+    data_before(raw, most)
+}
+
+// The same, byte by byte.
+fn data_before(raw: &[u8], most: usize) -> usize
     ensures { λ r. ⌜ r ≡ runOf isData most (now (raw .entry)) ⌝ }
 {
     let mut i: usize = 0;

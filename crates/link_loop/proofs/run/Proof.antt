@@ -9,7 +9,7 @@ use borrow.Author.Tests.{not-false}
 use denote.Ref.{now}
 use lib.ListN.{length, take}
 use Rattle.link.specs.declared.Link.{Link}
-use Rattle.link.specs.declared.Answer.the-variants as variant
+use Rattle.answers.specs.declared.Answer.the-variants as variant
 use Rattle.link_loop.specs.Parts.{endedFrom}
 use Rattle.link_loop.proofs.Notes.{ends-lent, Passing, room-length, content-length, taken-part, taken-within, loads-over, loads-within, begins, no-room, all-read, whole-reply, counts, one-more, ended, step-low}
 use Rattle.link_loop.proofs.Plains.{still-usable}

@@ -1,54 +1,35 @@
--- The first i bytes are of the run, and what is left of it is that of the bytes behind them.
+-- No byte is an escape, or they are gone through one by one.
+use borrow.Author.Needs.{needs}
 use Rattle.turns.proofs.data_ahead.Statement.{statement}
 use Rattle.turns.proofs.data_ahead.Tie as tie
-use Prim.Native.Nat.{_-_}
 use native.Mathlib.Omega.{arith}
-use borrow.Author.Tests.{eq-eqb, ne-eqb}
-use Rattle.turns.specs.Plain.{isData}
-use Rattle.turns.proofs.Plain.{Running, runs-none, run-full, run-ended, run-stopped, run-more}
-use borrow.Author.Needs.{needs}
+use mathlib.Core.Path.{sym}
+use borrow.Author.Tests.{not-true}
+use denote.Ref.{now}
+use lib.Seq.{length-take-le}
+use Rattle.turns.proofs.Plain.{run-clear}
 
-abbrev Inv-loop : tie.InvT-loop
-Inv-loop raw most i₀ i = Running isData raw most i
+slice-aggregate-has-escape : tie.Need-slice-aggregate-has-escape
+slice-aggregate-has-escape c = sym (length-take-le (c .before .before .before .args .most) (now (c .before .before .before .args .raw)) (omega arith))
 
-abbrev μ-loop : tie.MeasureT-loop
-μ-loop raw most i₀ i = most - i
+has-escape-requires : tie.Need-has-escape-requires
+has-escape-requires c κs = search needs
 
-loop-holds : tie.Need-loop-holds Inv-loop μ-loop
-loop-holds c = runs-none
+returns : tie.Need-returns
+returns c = run-clear (c .before .before .before .before .before .args .most) (now (c .before .before .before .before .before .args .raw)) (omega arith) (c .before .has-escape .ensures) (not-true _ (c .if2 .taken))
 
-returns : tie.Need-returns Inv-loop μ-loop
-returns c = run-ended (c .before .before .loop .inv) (c .if1 .taken)
+data-before-requires : tie.Need-data-before-requires
+data-before-requires c κs = search needs
 
-shared-slice-read-if2 : tie.Need-shared-slice-read-if2 Inv-loop μ-loop
-shared-slice-read-if2 c = search needs
-
-returns-2 : tie.Need-returns-2 Inv-loop μ-loop
-returns-2 c = run-stopped (c .before .before .before .before .loop .inv) (omega arith) (simp (eq-eqb _ _ (c .if2 .taken)))
-
-add-i : tie.Need-add-i Inv-loop μ-loop
-add-i c = search needs
-
-loop-less : tie.Need-loop-less Inv-loop μ-loop
-loop-less c = search needs
-
-loop-again : tie.Need-loop-again Inv-loop μ-loop
-loop-again c = run-more (c .before .before .before .before .loop .inv) (omega arith) (omega arith) (simp (ne-eqb _ _ (c .if2 .left)))
-
-returns-3 : tie.Need-returns-3 Inv-loop μ-loop
-returns-3 c = run-full (c .before .loop .inv) (omega arith)
+returns-2 : tie.Need-returns-2
+returns-2 c = search needs
 
 pub data-ahead-spec : {M : Type 1} → statement M
 data-ahead-spec =
     tie.close
     (tie.spec
-    Inv-loop
-    μ-loop
-    loop-holds
+    slice-aggregate-has-escape
+    has-escape-requires
     returns
-    shared-slice-read-if2
-    returns-2
-    add-i
-    loop-less
-    loop-again
-    returns-3)
+    data-before-requires
+    returns-2)

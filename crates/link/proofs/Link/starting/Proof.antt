@@ -3,10 +3,10 @@ use borrow.Author.Needs.{needs}
 use Rattle.link.proofs.Link.starting.Statement.{statement}
 use Rattle.link.proofs.Link.starting.Tie as tie
 use mathlib.Core.Path.{sym, _∙_}
-use Rattle.link.proofs.Steps.{nested-low, started, fifth-refused}
+use Rattle.link.proofs.Steps.{started, fifth-refused}
 
 may-start-requires : tie.Need-may-start-requires
-may-start-requires c κs = nested-low (c .args .self) (c .pre .0)
+may-start-requires c κs = search needs
 
 going-requires : tie.Need-going-requires
 going-requires c κs = search needs

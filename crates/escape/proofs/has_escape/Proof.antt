@@ -7,9 +7,9 @@ use denote.Ref.{now}
 use lib.Dec.{ltb}
 use lib.ListN.{length, drop}
 use Rattle.serial_rules.specs.Escape.{escapes}
-use Rattle.fields.proofs.Laws.{escape-more, escape-all}
-use Rattle.fields.proofs.has_escape.Statement.{statement}
-use Rattle.fields.proofs.has_escape.Tie as tie
+use Rattle.escape.proofs.Laws.{escape-more, escape-all}
+use Rattle.escape.proofs.has_escape.Statement.{statement}
+use Rattle.escape.proofs.has_escape.Tie as tie
 
 abbrev Inv-loop : tie.InvT-loop
 Inv-loop bytes found₀ i₀ found i = (i ≤ length bytes) × ((found || ltb 0 (escapes (drop i bytes))) ≡ ltb 0 (escapes bytes))

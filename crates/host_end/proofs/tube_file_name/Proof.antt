@@ -1,7 +1,7 @@
 -- The name that is found, as a flat record.
 use borrow.Author.Needs.{needs}
-use Rattle.tube.proofs.tube_file_name.Statement.{statement}
-use Rattle.tube.proofs.tube_file_name.Tie as tie
+use Rattle.host_end.proofs.tube_file_name.Statement.{statement}
+use Rattle.host_end.proofs.tube_file_name.Tie as tie
 
 file-name-requires : tie.Need-file-name-requires
 file-name-requires c κs = search needs

@@ -1,7 +1,7 @@
 -- Each arm is what that action tells.
 use borrow.Author.Needs.{needs}
-use Rattle.link.proofs.told_by.Statement.{statement}
-use Rattle.link.proofs.told_by.Tie as tie
+use Rattle.answers.proofs.told_by.Statement.{statement}
+use Rattle.answers.proofs.told_by.Tie as tie
 
 enum-told : tie.Need-enum-told
 enum-told c = search needs

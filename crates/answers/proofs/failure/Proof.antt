@@ -1,7 +1,7 @@
 -- The two tests are those of the definition.
 use borrow.Author.Tests.{eq-eqb, ne-eqb}
-use Rattle.link.proofs.failure.Statement.{statement}
-use Rattle.link.proofs.failure.Tie as tie
+use Rattle.answers.proofs.failure.Statement.{statement}
+use Rattle.answers.proofs.failure.Tie as tie
 
 returns : tie.Need-returns
 returns c = simp (eq-eqb _ _ (c .before .if1 .taken), eq-eqb _ _ (c .if2 .taken))

@@ -2,8 +2,8 @@
 use mathlib.Core.Path.{sym}
 use mathlib.Core.Bool.{or-true, or-false}
 use borrow.Author.Tests.{eq-eqb, ne-eqb}
-use Rattle.fields.proofs.or_escape.Statement.{statement}
-use Rattle.fields.proofs.or_escape.Tie as tie
+use Rattle.escape.proofs.or_escape.Statement.{statement}
+use Rattle.escape.proofs.or_escape.Tie as tie
 
 pub or-escape-spec : {M : Type 1} → statement M
 or-escape-spec =

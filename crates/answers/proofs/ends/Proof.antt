@@ -1,7 +1,7 @@
 -- Each answer ends the loop or does not, whatever bytes are lent.
 use borrow.Author.Needs.{needs}
-use Rattle.link_loop.proofs.ends.Statement.{statement}
-use Rattle.link_loop.proofs.ends.Tie as tie
+use Rattle.answers.proofs.ends.Statement.{statement}
+use Rattle.answers.proofs.ends.Tie as tie
 use Rattle.serial_rules.specs.Record.{passes}
 
 enum-told : tie.Need-enum-told
