@@ -48,6 +48,11 @@ ends-lent (variant.Error n k) reply own = refl
 ends-lent variant.Restart reply own = refl
 ends-lent (variant.Refused n) reply own = refl
 
+-- a finished reply ends the loop
+pub ends-reply : (n : ℕ) → endsOf (variant.Reply n) ≡ true
+unfolding passes
+ends-reply n = refl
+
 -- need-more ends no loop, and every other answer is its own last report
 more-goes : (a : Answer) → endsOf a ≡ true → a ≡ variant.More → ⊥
 unfolding passes

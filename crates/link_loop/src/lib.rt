@@ -66,12 +66,16 @@ pub fn run(
         let answer = s.answer;
         at = s.link;
         i += 1;
-        if answers::ends(answer) {
-            return ended(at, answer, i, log);
-        }
-        let noted = log.add(answer, own, room, content);
-        log = pass_load(at, noted, &raw[i..], room, content);
-        i += log.run - noted.run;
+        let Answer::Reply(length) = answer else {
+            if answers::ends(answer) {
+                return ended(at, answer, i, log);
+            }
+            let noted = log.add(answer, own, room, content);
+            log = pass_load(at, noted, &raw[i..], room, content);
+            i += log.run - noted.run;
+            continue;
+        };
+        return ended(at, Answer::Reply(length), i, log);
     }
 }
 

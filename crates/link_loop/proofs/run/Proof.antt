@@ -11,7 +11,7 @@ use lib.ListN.{length, take}
 use Rattle.link.specs.declared.Link.{Link}
 use Rattle.answers.specs.declared.Answer.the-variants as variant
 use Rattle.link_loop.specs.Parts.{endedFrom}
-use Rattle.link_loop.proofs.Notes.{ends-lent, Passing, room-length, content-length, taken-part, taken-within, loads-over, loads-within, begins, no-room, all-read, whole-reply, counts, one-more, ended, step-low}
+use Rattle.link_loop.proofs.Notes.{ends-lent, ends-reply, Passing, room-length, content-length, taken-part, taken-within, loads-over, loads-within, begins, no-room, all-read, whole-reply, counts, one-more, ended, step-low}
 use Rattle.link_loop.proofs.Plains.{still-usable}
 
 abbrev Inv-loop : tie.InvT-loop
@@ -131,6 +131,9 @@ add-i-2 c =
     let s2 = s1 .before .before .before .before .before .before .before .before .before .before .before .before .before .before in
     omega (arith, s1 .if3 .left, s2 .good .1 .0)
 
+enum-known-answer : tie.Need-enum-known-answer Inv-loop μ-loop
+enum-known-answer c = search needs
+
 ends-requires : tie.Need-ends-requires Inv-loop μ-loop
 ends-requires c κs = search needs
 
@@ -139,19 +142,19 @@ ended-requires-4 c κs = search needs
 
 same-length-5 : tie.Need-same-length-5 Inv-loop μ-loop
 same-length-5 c =
-    let s = c .before .before .before .before .before .before .before .before .before .before .before .before .before .before .before in
+    let s = c .before .before .before .before .before .before .before .before .before .before .before .before .before .before .before .before in
     room-length (s .loop .inv .1)
 
 same-length-6 : tie.Need-same-length-6 Inv-loop μ-loop
 same-length-6 c =
-    let s = c .before .before .before .before .before .before .before .before .before .before .before .before .before .before .before in
+    let s = c .before .before .before .before .before .before .before .before .before .before .before .before .before .before .before .before in
     content-length (s .loop .inv .1)
 
 returns-4 : tie.Need-returns-4 Inv-loop μ-loop
 returns-4 c =
     let s1 = c .before in
     let s2 = s1 .before in
-    let s3 = s2 .before .before in
+    let s3 = s2 .before .before .before in
     let s4 = s3 .before .before .before .before in
     let s5 = s4 .before in
     let s6 = s5 .before in
@@ -181,7 +184,7 @@ pass-load-requires : tie.Need-pass-load-requires Inv-loop μ-loop
 pass-load-requires c κs =
     let s1 = c .before .before .before .before .before .before .before .before .before .before .before .before in
     let s2 = s1 .before in
-    let s3 = s2 .before .before in
+    let s3 = s2 .before .before .before in
     still-usable (s3 .step .ensures) (not-false _ (ends-lent (s3 .step .result .answer) _ _ ∙ (sym (s2 .ends .ensures) ∙ s1 .if4 .left)))
 
 sub-i : tie.Need-sub-i Inv-loop μ-loop
@@ -190,7 +193,7 @@ sub-i c = c .before .before .before .before .before .before .pass-load .ensures 
 add-i-3 : tie.Need-add-i-3 Inv-loop μ-loop
 add-i-3 c =
     let s1 = c .before .before .before .before .before .before in
-    let s2 = s1 .before .before .before .before .before .before .before .before .before .before .before .before .before .before .before .before .before .before .before .before in
+    let s2 = s1 .before .before .before .before .before .before .before .before .before .before .before .before .before .before .before .before .before .before .before .before .before in
     let s3 = s2 .before .before .before .before in
     let s4 = s3 .before .before .before in
     let s5 = s4 .before .before .before .before .before .before .before in
@@ -204,7 +207,7 @@ add-i-3 c =
 loop-less : tie.Need-loop-less Inv-loop μ-loop
 loop-less c =
     let s1 = c .before .before .before .before .before .before in
-    let s2 = s1 .before .before .before .before .before .before .before .before .before .before .before .before .before .before .before .before .before .before .before .before in
+    let s2 = s1 .before .before .before .before .before .before .before .before .before .before .before .before .before .before .before .before .before .before .before .before .before in
     let s3 = s2 .before .before .before .before in
     let s4 = s3 .before .before .before in
     let s5 = s4 .before .before .before .before .before .before .before in
@@ -222,7 +225,7 @@ loop-again c =
     let s3 = s2 .before .before .before in
     let s4 = s3 .before .before in
     let s5 = s4 .before in
-    let s6 = s5 .before .before in
+    let s6 = s5 .before .before .before in
     let s7 = s6 .before .before .before .before in
     let s8 = s7 .before in
     let s9 = s8 .before in
@@ -241,6 +244,32 @@ loop-again c =
     (s3 .add-arg2 .given .0) in
     let told = one-more raw j fits near here (s7 .if3 .left) (s6 .step .ensures) (sym (s5 .ends .ensures) ∙ s4 .if4 .left) room (s2 .add .ensures) in
     (loads-within raw (j + 1) (step-low raw j (s7 .if3 .left)) (s1 .pass-load .ensures), loads-over raw (j + 1) told (s1 .pass-load .ensures))
+
+ended-requires-5 : tie.Need-ended-requires-5 Inv-loop μ-loop
+ended-requires-5 c κs = search needs
+
+same-length-7 : tie.Need-same-length-7 Inv-loop μ-loop
+same-length-7 c = room-length (c .before .before .before .before .before .before .before .before .before .before .before .before .before .before .before .before .loop .inv .1)
+
+same-length-8 : tie.Need-same-length-8 Inv-loop μ-loop
+same-length-8 c = content-length (c .before .before .before .before .before .before .before .before .before .before .before .before .before .before .before .before .loop .inv .1)
+
+returns-5 : tie.Need-returns-5 Inv-loop μ-loop
+returns-5 c =
+    let s1 = c .before .before in
+    let s2 = s1 .before .before .before in
+    let s3 = s2 .before .before .before .before in
+    let s4 = s3 .before in
+    let s5 = s4 .before in
+    let s6 = s5 .before .before in
+    let s7 = s6 .before .before .before in
+    let s8 = s7 .before .before in
+    let s9 = s8 .before in
+    let s10 = s9 .before .before .before .before in
+    ended (now (s10 .args .raw)) (s7 .loop .i + s6 .take-reply .result .used) (sym (s9 .lacks-room .ensures) ∙ s8 .if1 .left)
+    (taken-within (now (s10 .args .raw)) (s7 .loop .i) (s7 .loop .inv .0) (s6 .take-reply .ensures))
+    (taken-part (now (s10 .args .raw)) (s7 .loop .i) (s7 .loop .inv .1) (s6 .take-reply .ensures) (s5 .if2 .left) (s4 .with-got .ensures))
+    (s3 .if3 .left) (s2 .step .ensures) (variant.Reply (s1 .answer .given .0 .0)) (s1 .answer .given .1) (ends-reply (s1 .answer .given .0 .0)) (c .ended5 .ensures)
 
 pub run-spec : {M : Type 1} → statement M
 run-spec =
@@ -272,6 +301,7 @@ run-spec =
     shared-slice-read-step
     step-requires
     add-i-2
+    enum-known-answer
     ends-requires
     ended-requires-4
     same-length-5
@@ -285,4 +315,8 @@ run-spec =
     sub-i
     add-i-3
     loop-less
-    loop-again)
+    loop-again
+    ended-requires-5
+    same-length-7
+    same-length-8
+    returns-5)
