@@ -17,7 +17,7 @@ use Rattle.kind.specs.Kinds.{kindFor}
 use Rattle.kind.specs.declared.CallKind.{CallKind}
 use Rattle.kind.specs.Kinds.{replyLent}
 use Rattle.shapes.specs.declared.Shape.{Shape as Found}
-use Rattle.link.proofs.Steps.{at-data, data-outside, reply-more, reply-ended}
+use Rattle.link_step.proofs.Steps.{at-data, data-outside, reply-more, reply-ended}
 use Rattle.link_loop.specs.Parts.{midReply}
 use Rattle.link_loop.proofs.Plains.{mid-usable}
 use Rattle.flat_kind.specs.Kinds.{kindAt}

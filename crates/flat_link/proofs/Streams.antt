@@ -15,8 +15,8 @@ use Rattle.link.specs.declared.Doing.the-variants.{Quiet, Open}
 use Rattle.actions.specs.declared.Action.the-variants.{Error, Event, Address, Block}
 use Rattle.link.specs.View.{ownRoom, usableOf, viewOf, Step-done}
 use Rattle.answers.specs.Reports.{answerFor}
-use Rattle.link.proofs.Steps.{usable-held, nested-low}
-use Rattle.link.proofs.Settled.{Refuses, refuses, stops}
+use Rattle.link.proofs.Limits.{usable-held, nested-low}
+use Rattle.link_step.proofs.Settled.{Refuses, refuses, stops}
 use Rattle.serial_rules.proofs.Shapes.{choice}
 use Rattle.answers.specs.declared.Answer.the-variants as variant
 use Rattle.link_loop.specs.Run.{Runs}

@@ -67,7 +67,7 @@ pub fn begin(link: FlatLink, call: u8, out_length: u8) -> FlatBegun
     flat_begun(link, Begun::Denied(7))
 }
 
-// One raw byte: see `link::Link::step`.
+// One raw byte: see `link_step::step`.
 pub fn step(
     link: FlatLink,
     raw: u8,
@@ -120,7 +120,7 @@ fn step_unflattened(
     ensures { λ r. ⌜ Flat-step-done link (now (reply .entry)) (now (own .entry)) raw r (now (reply .exit)) (now (own .exit)) ⌝ }
 {
     if link_record::has_tags(link) {
-        let stepped = link_record::unflattened(link).step(raw, reply, own);
+        let stepped = link_step::step(link_record::unflattened(link), raw, reply, own);
         let answer = stepped.answer;
         let next = stepped.link;
         return flat_told(link_record::flattened(link, next), answer);

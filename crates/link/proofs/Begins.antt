@@ -17,7 +17,7 @@ use Rattle.link.specs.declared.Begun.the-variants.{Waits, Complete, Deni
 use Rattle.link.specs.declared.Started.{Started}
 use Rattle.link.specs.View.{ownRoom, nestRoom, usableOf, viewOf, begunOf, waitingFrom, Begin-done, Begin-none-done}
 use Rattle.link.specs.Parts.{begunFrom, busyWith, barredBy}
-use Rattle.link.proofs.Steps.{usable-live, usable-held, usable-nested}
+use Rattle.link.proofs.Limits.{usable-live, usable-held, usable-nested}
 
 denied : (n : ℕ) → Denied n ≡ Waits → ⊥
 denied n e = let z : _≡_ {A = ℕ} 0 1 = cc in omega arith

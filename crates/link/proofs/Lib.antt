@@ -1,3 +1,2 @@
-pub mod Steps
+pub mod Limits
 pub mod Begins
-pub mod Settled

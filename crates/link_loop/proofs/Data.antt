@@ -19,7 +19,7 @@ use Rattle.link.specs.declared.Link.{Link}
 use Rattle.serial_rules.specs.Nest.{nestOf}
 use Rattle.link.specs.View.{waitFor, doingFor, ownRoom, usableOf, viewOf}
 use Rattle.answers.specs.Reports.{reportOf}
-use Rattle.link.proofs.Steps.{usable-held}
+use Rattle.link.proofs.Limits.{usable-held}
 use Rattle.notes.specs.Notes.{Given, adds, addsAll}
 use Rattle.notes.proofs.Counts.{contentIn, content-more}
 use Rattle.link_loop.specs.Run.{Runs, stop, took}

@@ -17,7 +17,8 @@ use Rattle.link.specs.declared.Doing.the-variants.{Quiet, Open}
 use Rattle.link.specs.declared.Link.{Link}
 use Rattle.answers.specs.declared.Answer.the-variants as variant
 use Rattle.link.specs.View.{ownRoom, usableOf, Step-done}
-use Rattle.link.proofs.Steps.{usable-live, usable-held, data-loaded, data-outside, at-data}
+use Rattle.link.proofs.Limits.{usable-live, usable-held}
+use Rattle.link_step.proofs.Steps.{data-loaded, data-outside, at-data}
 use Rattle.notes.specs.declared.Log.{Log}
 use Rattle.notes.specs.Notes.{longestRun, addsAll}
 use Rattle.notes.specs.Logs.{joins, joinable, Add-run-done}

@@ -28,7 +28,7 @@ use Rattle.link.specs.View.{usableOf, viewOf, Step-done}
 use Rattle.answers.specs.Reports.{reportOf}
 use Rattle.link_loop.specs.Run.{Runs, stop, took, next}
 use Rattle.link_loop.specs.Parts.{midReply}
-use Rattle.link.proofs.Steps.{reply-more, data-outside, at-data}
+use Rattle.link_step.proofs.Steps.{reply-more, data-outside, at-data}
 
 -- a plain byte is data in itself
 data-in-itself : (b : ℕ) → plain b ≡ true → pieceOf false b ≡ dataByte b

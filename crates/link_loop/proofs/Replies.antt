@@ -30,8 +30,9 @@ use Rattle.answers.specs.declared.Answer.the-variants as variant
 use Rattle.link.specs.declared.Stepped.{Stepped}
 use Rattle.link.specs.View.{usableOf}
 use Rattle.answers.specs.Reports.{reportOf}
-use Rattle.link.specs.Parts.{restingWith, Reply-byte-done}
-use Rattle.link.proofs.Steps.{reply-more, reply-ended, data-outside, at-data, at-pending}
+use Rattle.link.specs.Parts.{restingWith}
+use Rattle.link_step.specs.Parts.{Reply-byte-done}
+use Rattle.link_step.proofs.Steps.{reply-more, reply-ended, data-outside, at-data, at-pending}
 use Rattle.link_loop.specs.declared.Taken.{Taken}
 use Rattle.link_loop.specs.Run.{Runs, stop}
 use Rattle.link_loop.specs.Parts.{quietly, inReply, midReply, takenAs, Take-done}

@@ -1,4 +1,4 @@
--- A stream read by the program, and what its loop promises: each step is what `Link::step` promises, on what the last one left.
+-- A stream read by the program, and what its loop promises: each step is what `link_step::step` promises, on what the last one left.
 use Prim.Native.Nat.{ℕ, _+_, _*_, _/_, _≤_}
 use mathlib.Core.Path.{_≡_}
 use mathlib.Core.Bool.{Bool, true, false, _||_}

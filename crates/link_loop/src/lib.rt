@@ -62,7 +62,7 @@ pub fn run(
         if raw.len() <= i {
             return ended(next, Answer::More, i, log);
         }
-        let s = next.step(raw[i], reply, own);
+        let s = link_step::step(next, raw[i], reply, own);
         let answer = s.answer;
         at = s.link;
         i += 1;

@@ -1,4 +1,4 @@
--- Sessions of the program: raw bytes and begun calls in any order, each as `Link::step` and `Link::begin` promise, on what the last one left.
+-- Sessions of the program: raw bytes and begun calls in any order, each as `link_step::step` and `Link::begin` promise, on what the last one left.
 use Prim.Native.Nat.{ℕ}
 use mathlib.Core.List.{List, [], _∷_}
 use Rattle.serial_rules.specs.Session.{Input, raw, call, Told, report, answer}
