@@ -22,6 +22,7 @@ use Rattle.link.specs.View.{waitFor, doingFor, viewOf, tokenLent, doingLent, st
 use Rattle.link.specs.Parts.{goingFrom, nestingFrom, seenStep}
 use Rattle.answers.specs.Reports.{reportOf, answerFor}
 
+-- what four address bytes leave, by what they are for: those of a load or save open it
 abbrev pub placedFrom : Link → Target → Answer → Stepped
 placedFrom l Set a = goingFrom l a Quiet 0
 placedFrom l Execute a = goingFrom l a Quiet 0

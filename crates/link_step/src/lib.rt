@@ -110,6 +110,7 @@ fn data_step(link: Link, b: u8, reply: &mut [u8], own: &mut [u8]) -> Stepped
     }
 }
 
+// A data byte outside an action.
 fn outer_step(link: Link, b: u8, reply: &mut [u8]) -> Stepped
     requires { ⌜ (usableOf link ≡ true) × (link .got < replyLent) × (length (now reply) ≡ replyLent) ⌝ }
     ensures { λ r. ⌜ Reply-byte-done link (now (reply .entry)) b r (now (reply .exit)) ⌝ }
