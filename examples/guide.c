@@ -26,13 +26,13 @@ void send_raw(const uint8_t *bytes, size_t length) {
 
 /* The host's answer with an Escape press behind its first byte. */
 size_t receive_raw(uint8_t *bytes, size_t room) {
-    static const uint8_t escape_on[2] = {TUBE_ESCAPE_BYTE, 0x81};
+    size_t cut = behind_first(wire);
     if (room < waiting + 2)
         return 0;
-    bytes[0] = wire[0];
-    memcpy(bytes + 1, escape_on, 2);
-    memcpy(bytes + 3, wire + 1, waiting - 1);
-    return waiting + 2;
+    memcpy(bytes, wire, cut);
+    TubeWritten on = tube_write_action(TUBE_TOLD_ESCAPE, 1, 0, 0, 0, none, 0, none, 0, bytes + cut, room - cut);
+    memcpy(bytes + cut + on.length, wire + cut, waiting - cut);
+    return waiting + on.length;
 }
 
 void note(const uint8_t bytes[TUBE_NOTE], const uint8_t *data) {
@@ -82,9 +82,10 @@ int main(void) {
         printf("client: OSBGET gives %d\n", osbget(&link, 5));
 
     /* the bytes of the picture 'A load inside the reply to OSBGET' */
-    const uint8_t recorded[12] = {0x80, TUBE_ESCAPE_BYTE, 0xE0, 0x00, 0x00, 0x19, 0x00, 0x41, 0x42, TUBE_ESCAPE_BYTE, 0xB0, 0x41};
-    uint8_t reply[TUBE_REPLY_LENGTH];
-    TubeRecorded r = replay(TUBE_OSBGET, 0, recorded, sizeof recorded, reply);
+    uint8_t recorded[12] = {0x80}, reply[TUBE_REPLY_LENGTH];
+    size_t sent = 1 + load_file(0x1900, (const uint8_t *)"AB", 2, recorded + 1, sizeof recorded - 2);
+    recorded[sent++] = 0x41;
+    TubeRecorded r = replay(TUBE_OSBGET, 0, recorded, sent, reply);
     printf("recorded: kind %u, %u bytes used, reply &%02X &%02X\n", (unsigned)r.kind, (unsigned)r.used, reply[0], reply[1]);
 
     osbytes(&chip);

@@ -28,9 +28,10 @@ static void raw(const char *bytes, size_t length) {
 }
 
 int main(void) {
-    const uint8_t line[5] = {0x07, 0x00, 0x20, 0x20, 0x7E};                           /* buffer, length, lowest, highest */
-    const uint8_t pointer[4] = {0x00, 0x00, 0x01, 0x9B};                              /* PTR, high byte first */
-    const uint8_t file[16] = {0, 0, 0x19, 0, 0, 0, 0x19, 0, 0, 0, 0, 0, 0, 0, 0, 0};  /* load at &1900 */
+    /* Each block from its last byte to its first. */
+    const uint8_t line[5] = {0x7E, 0x20, 0x20, 0x07, 0x00};                             /* highest, lowest, length, buffer */
+    const uint8_t pointer[4] = {0x00, 0x00, 0x01, 0x9B};                                /* PTR */
+    const uint8_t file[16] = {0, 0, 0, 0, 0, 0, 0, 0, 0, 0, 0x19, 0, 0, 0, 0x19, 0};    /* attributes, length, execution address, load address */
     const uint8_t some[13] = {0, 0, 0x01, 0x00, 0, 0, 0, 0x20, 0, 0, 0x30, 0x00, 0x05}; /* PTR, bytes, address, handle */
     const uint8_t none[1] = {0};
 

@@ -6,7 +6,8 @@
  * different threads.
  *
  * What the caller owes, here and nowhere else, is what C cannot say of a pointer:
- *   - it is not null and valid for the whole call; an empty buffer has length 0 and any valid pointer;
+ *   - it is not null and valid for the whole call; an empty buffer has length 0 and any valid pointer, also one just behind
+ *     an array;
  *   - it points to a whole record, to as many bytes as the length behind it says, or to the whole array that its declaration names
  *     (TUBE_BODY, TUBE_REPLY_LENGTH, TUBE_OWN_LENGTH);
  *   - what is lent for writing overlaps nothing else that is lent to the same call.
@@ -37,8 +38,8 @@ enum {
     TUBE_STOPPED = 7,        /* a byte given to, or a call begun on, a stopped reader or link, or a byte behind the last of a reply: the record is
                                 given back as it was */
     TUBE_BUFFER_SHORT = 8,   /* a lent buffer is too short: no byte of it was touched, nothing was played, no raw byte used */
-    TUBE_BAD_FIELD = 9,      /* a field breaks its rule, or a data byte comes inside a save: the reader or link is stopped; a writer's buffer
-                                untouched */
+    TUBE_BAD_FIELD = 9,      /* a field breaks its rule, a data byte comes inside a save, or a number is no action: the reader or link is stopped;
+                                a writer's buffer untouched */
     TUBE_LIMIT_REACHED = 10, /* the play limit is reached and script bytes remain: the chip as after the last played record */
     TUBE_CUT_SHORT = 11,     /* the script ends inside a record: the same */
     TUBE_CALL_WAITS = 12,    /* a call begun while another waits: the link is given back as it was */
@@ -221,11 +222,12 @@ TubeFed tube_feed(TubeReader reader, const uint8_t *raw, size_t raw_length, uint
 
 typedef struct {
     size_t length;  /* of the encoding, where it was written, else 0 */
-    uint8_t answer; /* 0, TUBE_UNKNOWN_CODE, TUBE_STRING_LONG, TUBE_BAD_FIELD or TUBE_BUFFER_SHORT, the first that applies */
+    uint8_t answer; /* 0, TUBE_UNKNOWN_CODE (of requests and replies), TUBE_STRING_LONG, TUBE_BAD_FIELD or TUBE_BUFFER_SHORT, the first that applies */
 } TubeWritten;
 
 /* Writes a request into the start of `out`; the bytes beyond it stay, and a refused writer has touched none. A number that the call
- * does not have is not read. `block` is OSWORD's in block or the call's block, high byte first; `text` is its string without &0D.
+ * does not have is not read. `block` is OSWORD's in block or the call's block, from its last byte to its first, so that numbers stand high byte
+ * first and OSFILE's load address comes last; `text` is its string without &0D.
  * TUBE_UNKNOWN_CODE: no such call. TUBE_BAD_FIELD: no such carrier or style, an A that the call does not allow, a block that is not as long as
  * the call's, a &0D in the string, a block or string for a call that has none. */
 TubeWritten tube_write_request(uint8_t carrier, uint8_t style, uint8_t call, uint8_t x, uint8_t y, uint8_t a, uint8_t out_length,
@@ -269,7 +271,7 @@ typedef struct {
 /* The name in the body of an OSFILE request. In one that a reader finished it is always found. */
 TubeName tube_file_name(const uint8_t *body, size_t length);
 
-/* ---- Replies and actions, inward: the client's end of the serial lead, and the parasite's of R2 ---- */
+/* ---- Replies and actions, inward: read at the client's end of the serial lead or by the parasite on R2, written at the host's ---- */
 
 enum {
     TUBE_REPLY_LENGTH = 257, /* the longest reply, and the bytes lent for it */
@@ -425,12 +427,37 @@ typedef enum {
 } TubeReplyForm;
 
 /* Writes the reply to a call into the start of `out`, for the serial lead or, without escapes, for the parallel side; the bytes beyond it stay,
- * and a refused writer has touched none. A number that the reply does not have is not read. `block` is high byte first; `text` is the line without
- * &0D. TUBE_UNKNOWN_CODE: no such call. TUBE_BAD_FIELD: no such carrier, a reply that does not fit the call, a block that is not as long as the
- * reply's (of OSWORD: `out_length`), a &0D in the line, a block or line for a reply that has none. */
+ * and a refused writer has touched none. A number that the reply does not have is not read. `block` is from its last byte to its first, as in a
+ * request; `text` is the line without &0D. TUBE_UNKNOWN_CODE: no such call. TUBE_BAD_FIELD: no such carrier, a reply that does not fit the call, a
+ * block that is not as long as the reply's (of OSWORD: `out_length`), a &0D in the line, a block or line for a reply that has none. */
 TubeWritten tube_write_reply(uint8_t carrier, uint8_t call, uint8_t out_length, uint8_t reply, uint8_t carry, uint8_t x, uint8_t y, uint8_t a,
                              const uint8_t *block, size_t block_length, const uint8_t *text, size_t text_length,
                              uint8_t *out, size_t room);
+
+/* Writes an action on the serial lead into the start of `out`; the bytes beyond it stay, and a refused writer has touched none. `action` is the kind under
+ * which a link tells it, and the numbers are those that the link tells then; a number that is not named here is not read.
+ *   TUBE_TOLD_ESCAPE   first: on where it is not 0
+ *   TUBE_TOLD_EVENT    first Y, second X, third A
+ *   TUBE_TOLD_ADDRESS, TUBE_TOLD_EXECUTE, TUBE_TOLD_LOAD, TUBE_TOLD_SAVE
+ *                      first to fourth, high byte first
+ *   TUBE_TOLD_BLOCK    `block`, a control block of 1 to 127 bytes
+ *   TUBE_TOLD_END      no number: it closes the innermost open load or save
+ *   TUBE_TOLD_ERROR    first is its number; `text`, at most 255 bytes without &00. Error 0 without text is written, and told, as the restart
+ *   TUBE_TOLD_RESTART  no number
+ * TUBE_STRING_LONG: a text over 255 bytes, whatever the action. TUBE_BAD_FIELD: a number that is no action, a &00 in the text, a control block of 0 or of
+ * more than 127 bytes, a block or text for an action that has none. 2 + 2 * TUBE_OWN_LENGTH bytes are enough for every action.
+ * The writer remembers nothing, and where an action stands is the host's to keep. With a reply: before any of its data bytes and not behind the last, so none
+ * with a reply of no byte; never between the two bytes of a doubled escape (to find a place in a written reply walk it: &9B counts with the byte behind it);
+ * each load or save closed, by its end, an error or a restart, before the next data byte of the reply; no end where none is open; at most TUBE_TRANSFERS
+ * open. The client's link then tells all that was sent, and the reply unless there was an error or restart: that ends the call, and a host sends no more of
+ * the reply, whose bytes would be characters. Between calls an action is told too, and the client stays idle. */
+TubeWritten tube_write_action(uint8_t action, uint8_t first, uint8_t second, uint8_t third, uint8_t fourth,
+                              const uint8_t *block, size_t block_length, const uint8_t *text, size_t text_length,
+                              uint8_t *out, size_t room);
+
+/* Writes load data, any number of bytes, into the start of `out`: each escape byte doubled, 2 * length bytes at most. It stands where a load is the innermost
+ * open transfer. TUBE_BUFFER_SHORT: it does not fit, and no byte was touched; else 0. */
+TubeWritten tube_write_data(const uint8_t *bytes, size_t length, uint8_t *out, size_t room);
 
 /* Kinds of what a byte of a reply does on the parallel side. */
 enum { TUBE_TAKEN_MORE = 0, TUBE_TAKEN_LAST = 1, TUBE_TAKEN_REFUSED = 2 };

@@ -10,11 +10,13 @@ use std::process::ExitCode;
 use std::time::{Duration, Instant};
 
 mod compare_chip;
+mod compare_host;
 mod compare_link;
 mod compare_reader;
 mod compare_recorded;
 mod compare_reply;
 mod compare_writer;
+mod host;
 mod inputs;
 mod interface;
 mod link;
@@ -33,7 +35,7 @@ struct Comparison {
     share: fn(&mut Random, u64, &mut Report),
 }
 
-const COMPARISONS: [Comparison; 6] = [
+const COMPARISONS: [Comparison; 7] = [
     Comparison {
         name: "chip",
         report: compare_chip::report,
@@ -69,6 +71,12 @@ const COMPARISONS: [Comparison; 6] = [
         report: compare_recorded::report,
         whole: compare_recorded::whole,
         share: compare_recorded::share,
+    },
+    Comparison {
+        name: "host",
+        report: compare_host::report,
+        whole: compare_host::whole,
+        share: compare_host::share,
     },
 ];
 

@@ -38,7 +38,7 @@ impl TubeLink {
     }
 
     /// Flags out of range count as a stop.
-    fn to_second(self) -> Link {
+    pub fn to_second(self) -> Link {
         Link {
             wait: self.wait,
             out_length: self.out_length,

@@ -171,16 +171,16 @@ const STEP: Group = Group {
 
 /// A reply that owns its block and its line.
 #[derive(Clone, PartialEq, Debug)]
-struct Owned {
+pub struct Owned {
     carrier: u8,
-    call: u8,
-    out_length: u8,
+    pub call: u8,
+    pub out_length: u8,
     reply: u8,
     carry: u8,
     x: u8,
     y: u8,
     a: u8,
-    block: Vec<u8>,
+    pub block: Vec<u8>,
     text: Vec<u8>,
 }
 
@@ -201,7 +201,7 @@ impl Owned {
     }
 
     /// A reply that fits its call.
-    fn good(random: &mut Random, carrier: u8, call: u8) -> Owned {
+    pub fn good(random: &mut Random, carrier: u8, call: u8) -> Owned {
         let mixture = random.below(4);
         let out_length = random.length() as u8;
         let fitting = FITTING[call as usize];
@@ -273,7 +273,7 @@ impl Owned {
     }
 
     /// The plain bytes of a reply that fits its call.
-    fn bytes(&self) -> Vec<u8> {
+    pub fn bytes(&self) -> Vec<u8> {
         let set = self.carry != 0;
         let carry = if set { 0x80 } else { 0x00 };
         match self.reply {
@@ -375,7 +375,7 @@ impl Owned {
     }
 
     /// In words, long fields cut.
-    fn shown(&self) -> String {
+    pub fn shown(&self) -> String {
         let (block, text) = (self.block.len(), self.text.len());
         let mut cut = self.clone();
         cut.block.truncate(20);
@@ -829,7 +829,7 @@ fn compare_buffer(
 // ---- Written, then read ----
 
 /// The library's encoding of a reply that fits.
-fn encoding(reply: &Owned, size: usize) -> Vec<u8> {
+pub fn encoding(reply: &Owned, size: usize) -> Vec<u8> {
     let mut out = vec![0; GUARD + size + GUARD];
     library_write(reply, &mut out);
     out[GUARD..GUARD + size].to_vec()

@@ -186,7 +186,7 @@ impl Random {
     }
 
     /// The length of a control block, 1 to 127.
-    fn block_length(&mut self) -> u8 {
+    pub fn block_length(&mut self) -> u8 {
         match self.below(8) {
             0 => 1 + self.below(127) as u8,
             1 => 127 - self.below(2) as u8,
@@ -195,7 +195,7 @@ impl Random {
     }
 
     /// The length of load data with nothing else told between.
-    fn data_length(&mut self) -> usize {
+    pub fn data_length(&mut self) -> usize {
         match self.below(24) {
             0 => self.length(),
             1 => 250 + self.below(12),

@@ -287,6 +287,25 @@ unsafe extern "C" {
         out: *mut u8,
         room: usize,
     ) -> TubeWritten;
+    pub fn tube_write_action(
+        action: u8,
+        first: u8,
+        second: u8,
+        third: u8,
+        fourth: u8,
+        block: *const u8,
+        block_length: usize,
+        text: *const u8,
+        text_length: usize,
+        out: *mut u8,
+        room: usize,
+    ) -> TubeWritten;
+    pub fn tube_write_data(
+        bytes: *const u8,
+        length: usize,
+        out: *mut u8,
+        room: usize,
+    ) -> TubeWritten;
     pub fn tube_reply_step(
         call: u8,
         out_length: u8,

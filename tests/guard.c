@@ -76,13 +76,13 @@ static size_t length_of(void) {
 
 enum {
     ACCESS, NEW, RESET, LINES, PLAY, TEXT, READER, READ, FEED, WRITE_REQUEST, KIND_OF, READ_REQUEST, FILE_NAME, LINK, BEGIN, LINK_STEP, RUN, READ_RECORDED,
-    WRITE_REPLY, REPLY_STEP, READ_REPLY, EXPORTS
+    WRITE_REPLY, REPLY_STEP, READ_REPLY, WRITE_ACTION, WRITE_DATA, EXPORTS
 };
 
 static const char *const exports[EXPORTS] = {
     "tube_access", "tube_new", "tube_reset", "tube_lines", "tube_play", "tube_text", "tube_reader", "tube_read", "tube_feed", "tube_write_request",
     "tube_kind_of", "tube_read_request", "tube_file_name", "tube_link", "tube_begin", "tube_link_step", "tube_run", "tube_read_recorded",
-    "tube_write_reply", "tube_reply_step", "tube_read_reply"};
+    "tube_write_reply", "tube_reply_step", "tube_read_reply", "tube_write_action", "tube_write_data"};
 
 enum { INSIDE, STAYS, SOUND, KINDS };
 
@@ -121,6 +121,8 @@ static const unsigned long has[EXPORTS] = {
     [WRITE_REPLY] = WRITER,
     [REPLY_STEP] = BIT(TUBE_UNKNOWN_CODE) | BIT(TUBE_STRING_LONG) | BIT(TUBE_STOPPED) | BIT(16 + TUBE_TAKEN_MORE) | BIT(16 + TUBE_TAKEN_LAST) | BIT(16 + TUBE_TAKEN_REFUSED),
     [READ_REPLY] = ALL_FORMS,
+    [WRITE_ACTION] = WRITER & ~BIT(TUBE_UNKNOWN_CODE),
+    [WRITE_DATA] = BIT(TUBE_DONE) | BIT(TUBE_BUFFER_SHORT),
 };
 
 static unsigned long seen[EXPORTS];
@@ -884,11 +886,98 @@ static void try_read_reply(void) {
                      && g.text_start <= length && g.text_length <= length - g.text_start);
 }
 
+/* ---- Actions and load data ---- */
+
+/* The bytes of data on the serial lead, each escape doubled: how many. */
+static size_t doubled(const uint8_t *bytes, size_t length, uint8_t *out) {
+    size_t at = 0;
+    for (size_t i = 0; i < length; i++) {
+        out[at++] = bytes[i];
+        if (bytes[i] == TUBE_ESCAPE_BYTE)
+            out[at++] = TUBE_ESCAPE_BYTE;
+    }
+    return at;
+}
+
+/* Whether an action that is written is told by a link inside a load, at its last byte, with the numbers, block or text that the writer was given. */
+static int action_told(uint8_t action, const uint8_t numbers[4], const uint8_t *block, size_t block_length, const uint8_t *text, size_t text_length,
+                       const uint8_t *bytes, size_t length) {
+    static uint8_t reply[TUBE_REPLY_LENGTH], own[TUBE_OWN_LENGTH];
+    TubeTold t = {.link = tube_begin(tube_link(), TUBE_OSBGET, 0).link};
+    t.link.flags = TUBE_LINK_NESTED;
+    for (size_t i = 0; i < length; i++) {
+        if (t.kind != TUBE_TOLD_MORE)
+            return 0;
+        t = tube_link_step(t.link, bytes[i], reply, own);
+    }
+    switch (action) {
+    case TUBE_TOLD_ESCAPE: return t.kind == action && t.first == (numbers[0] != 0);
+    case TUBE_TOLD_EVENT: return t.kind == action && t.first == numbers[0] && t.second == numbers[1] && t.third == numbers[2];
+    case TUBE_TOLD_BLOCK: return t.kind == action && t.length == block_length && memcmp(own, block, block_length) == 0;
+    case TUBE_TOLD_END: return t.kind == action && t.first == TUBE_LOAD;
+    case TUBE_TOLD_RESTART: return t.kind == action;
+    case TUBE_TOLD_ERROR:
+        if (numbers[0] == 0 && text_length == 0)
+            return t.kind == TUBE_TOLD_RESTART;
+        return t.kind == action && t.first == numbers[0] && t.length == text_length && memcmp(own + 1, text, text_length) == 0;
+    default: return t.kind == action && t.first == numbers[0] && t.second == numbers[1] && t.third == numbers[2] && t.fourth == numbers[3];
+    }
+}
+
+static void try_write_action(void) {
+    static uint8_t large[2 + 2 * TUBE_OWN_LENGTH];
+    static const uint8_t actions[10] = {TUBE_TOLD_ESCAPE, TUBE_TOLD_EVENT, TUBE_TOLD_ADDRESS, TUBE_TOLD_ERROR, TUBE_TOLD_RESTART,
+                                        TUBE_TOLD_BLOCK, TUBE_TOLD_EXECUTE, TUBE_TOLD_LOAD, TUBE_TOLD_SAVE, TUBE_TOLD_END};
+    uint8_t action = below(6) ? actions[below(10)] : tag(TUBE_TOLD_END + 2), numbers[4] = {edge(), edge(), edge(), edge()};
+    size_t block_length = action == TUBE_TOLD_BLOCK ? below(3) ? 1 + below(127) : below(2) ? 126 + below(4) : length_of() : below(6) == 0 ? length_of() : 0;
+    size_t text_length = action == TUBE_TOLD_ERROR || below(6) == 0 ? length_of() : 0;
+    const uint8_t *block = lend(0, block_length);
+    filled(0);
+    uint8_t *text = lend(1, text_length);
+    if (below(4) > 0)
+        for (size_t i = 0; i < text_length; i++)
+            text[i] = text[i] == 0x00 ? 0x9B : text[i];
+    filled(1);
+    TubeWritten whole = tube_write_action(action, numbers[0], numbers[1], numbers[2], numbers[3], block, block_length, text, text_length, large, sizeof large);
+    size_t room = room_for(whole.length);
+    uint8_t *out = lend(2, room);
+    filled(2);
+    TubeWritten w = tube_write_action(action, numbers[0], numbers[1], numbers[2], numbers[3], block, block_length, text, text_length, out, room);
+    came(w.answer);
+    check(INSIDE, stays(2, 0, room));
+    check(STAYS, all_stay(0) && all_stay(1) && stays(2, 0, at_most(w.length, room)));
+    /* 6 before 9 before 8. */
+    int known = memchr(actions, action, sizeof actions) != NULL, has_block = action == TUBE_TOLD_BLOCK;
+    int fits = known && (has_block ? block_length > 0 && block_length < 128 : block_length == 0)
+               && (action == TUBE_TOLD_ERROR ? memchr(text, 0, text_length) == NULL : text_length == 0);
+    uint8_t answer = text_length > TUBE_STRING_LIMIT ? TUBE_STRING_LONG : !fits ? TUBE_BAD_FIELD : TUBE_DONE;
+    int tight = answer == TUBE_DONE && room < whole.length;
+    check(SOUND, whole.answer == answer && (answer == TUBE_DONE ? whole.length >= 2 : whole.length == 0) && w.answer == (tight ? TUBE_BUFFER_SHORT : answer)
+                     && w.length == (tight ? 0 : whole.length) && memcmp(out, large, at_most(w.length, room)) == 0
+                     && (answer != TUBE_DONE || action_told(action, numbers, block, block_length, text, text_length, large, whole.length)));
+}
+
+static void try_write_data(void) {
+    static uint8_t expected[4000];
+    size_t length = below(8) ? length_of() : below(sizeof expected / 2);
+    const uint8_t *bytes = lend(0, length);
+    filled(0);
+    size_t need = doubled(bytes, length, expected), room = room_for(need);
+    uint8_t *out = lend(1, room);
+    filled(1);
+    TubeWritten w = tube_write_data(bytes, length, out, room);
+    came(w.answer);
+    check(INSIDE, stays(1, 0, room));
+    check(STAYS, all_stay(0) && stays(1, 0, at_most(w.length, room)));
+    check(SOUND, room < need ? w.answer == TUBE_BUFFER_SHORT && w.length == 0 : w.answer == TUBE_DONE && w.length == need && memcmp(out, expected, need) == 0);
+}
+
 /* ---- All of it ---- */
 
 static void (*const trials[EXPORTS])(void) = {
     try_access, try_new, try_reset, try_lines, try_play, try_text, try_reader, try_read, try_feed, try_write_request,
-    try_kind_of, try_read_request, try_file_name, try_link, try_begin, try_link_step, try_run, try_read_recorded, try_write_reply, try_reply_step, try_read_reply};
+    try_kind_of, try_read_request, try_file_name, try_link, try_begin, try_link_step, try_run, try_read_recorded, try_write_reply, try_reply_step, try_read_reply,
+    try_write_action, try_write_data};
 
 static sigjmp_buf out_of_call;
 

@@ -1472,6 +1472,309 @@ static void replies_taken(void) {
     expect("tube_reply_step: no such call, no place, 4 before 7 before 6", refused && kept(&one, 0, 0));
 }
 
+/* ---- Actions and load data ---- */
+
+/* An action with its numbers, its block and its text; its bytes; how many of the four numbers it has. */
+typedef struct {
+    const char *name;
+    uint8_t action, numbers[4];
+    const char *block, *text, *bytes;
+    int has;
+} Action;
+
+static const Action actions[] = {
+    {"an error", TUBE_TOLD_ERROR, {0xFE}, "", "4E 6F", "9B 00 FE 4E 6F 00", 1},
+    {"an error with escapes", TUBE_TOLD_ERROR, {0x9B}, "", "9B", "9B 00 9B 9B 9B 9B 00", 1},
+    {"an error without text", TUBE_TOLD_ERROR, {7}, "", "", "9B 00 07 00", 1},
+    {"error 0 with text", TUBE_TOLD_ERROR, {0}, "", "78", "9B 00 00 78 00", 1},
+    {"error 0 without text", TUBE_TOLD_ERROR, {0}, "", "", "9B 00 00 00", 1},
+    {"an error with a return", TUBE_TOLD_ERROR, {1}, "", "0D", "9B 00 01 0D 00", 1},
+    {"an error of 255 bytes", TUBE_TOLD_ERROR, {1}, "", "78*255", "9B 00 01 78*255 00", 1},
+    {"an error of 255 escapes", TUBE_TOLD_ERROR, {0x9B}, "", "9B*255", "9B 00 9B 9B 9B*510 00", 1},
+    {"the restart", TUBE_TOLD_RESTART, {0}, "", "", "9B 00 00 00", 0},
+    {"Escape off", TUBE_TOLD_ESCAPE, {0}, "", "", "9B 80", 1},
+    {"Escape on", TUBE_TOLD_ESCAPE, {1}, "", "", "9B 81", 1},
+    {"Escape on by 2", TUBE_TOLD_ESCAPE, {2}, "", "", "9B 81", 1},
+    {"Escape on by 255", TUBE_TOLD_ESCAPE, {255}, "", "", "9B 81", 1},
+    {"an event", TUBE_TOLD_EVENT, {1, 0x9B, 3}, "", "", "9B 90 01 9B 9B 03", 3},
+    {"an address", TUBE_TOLD_ADDRESS, {0, 0, 0x80, 0}, "", "", "9B C0 00 00 80 00", 4},
+    {"an execute", TUBE_TOLD_EXECUTE, {0, 0, 0x80, 0}, "", "", "9B D0 00 00 80 00", 4},
+    {"a load", TUBE_TOLD_LOAD, {0, 0, 0x19, 0}, "", "", "9B E0 00 00 19 00", 4},
+    {"a save with an escape", TUBE_TOLD_SAVE, {0x9B, 0, 0, 0}, "", "", "9B F0 9B 9B 00 00 00", 4},
+    {"a load with escapes", TUBE_TOLD_LOAD, {0x9B, 0x9B, 0x9B, 0x9B}, "", "", "9B E0 9B*8", 4},
+    {"an end", TUBE_TOLD_END, {0}, "", "", "9B B0", 0},
+    {"a control block of an escape", TUBE_TOLD_BLOCK, {0}, "9B", "", "9B 01 9B 9B", 0},
+    {"a control block of 127 bytes", TUBE_TOLD_BLOCK, {0}, "55*127", "", "9B 7F 55*127", 0},
+    {"a control block of 127 escapes", TUBE_TOLD_BLOCK, {0}, "9B*127", "", "9B 7F 9B*254", 0},
+};
+
+enum { ACTIONS = sizeof actions / sizeof actions[0] };
+
+static TubeWritten act(uint8_t action, const uint8_t *numbers, const uint8_t *block, size_t block_length, const uint8_t *text, size_t text_length, uint8_t *out, size_t room) {
+    return tube_write_action(action, numbers[0], numbers[1], numbers[2], numbers[3], block, block_length, text, text_length, out, room);
+}
+
+/* Whether a link tells an action as it was given to the writer. */
+static int tells(TubeTold t, const Action *c, const uint8_t *own, const uint8_t *block, size_t block_length, const uint8_t *text, size_t text_length) {
+    const uint8_t *n = c->numbers;
+    switch (c->action) {
+    case TUBE_TOLD_ESCAPE: return told(t, TUBE_TOLD_ESCAPE, 0, n[0] != 0, 0, 0, 0);
+    case TUBE_TOLD_BLOCK: return told(t, TUBE_TOLD_BLOCK, block_length, 0, 0, 0, 0) && memcmp(own, block, block_length) == 0;
+    case TUBE_TOLD_END: return told(t, TUBE_TOLD_END, 0, TUBE_LOAD, 0, 0, 0);
+    case TUBE_TOLD_ERROR:
+        if (n[0] != 0 || text_length > 0)
+            return told(t, TUBE_TOLD_ERROR, text_length, n[0], 0, 0, 0) && own[0] == n[0] && memcmp(own + 1, text, text_length) == 0;
+        return told(t, TUBE_TOLD_RESTART, 0, 0, 0, 0, 0);
+    default: return told(t, c->action, 0, n[0], n[1], n[2], n[3]);
+    }
+}
+
+static int is_action(int number) {
+    for (int i = 0; i < ACTIONS; i++)
+        if (actions[i].action == number)
+            return 1;
+    return 0;
+}
+
+static void actions_written(void) {
+    expect("numbers of actions", TUBE_TOLD_ESCAPE == 2 && TUBE_TOLD_EVENT == 3 && TUBE_TOLD_ADDRESS == 4 && TUBE_TOLD_ERROR == 6 && TUBE_TOLD_RESTART == 7);
+
+    static uint8_t block[128], text[256], bytes[600];
+    const TubeLink waits = tube_begin(tube_link(), TUBE_OSBGET, 0).link, loading = nested(waits, 1);
+    int tight = 1, unread = 1, again = 1, stay = 1;
+    for (int i = 0; i < ACTIONS; i++) {
+        const Action *c = &actions[i];
+        const size_t block_length = bytes_of(c->block, block), text_length = bytes_of(c->text, text), length = bytes_of(c->bytes, bytes);
+        uint8_t same_block[128], same_text[256];
+        memcpy(same_block, block, sizeof block), memcpy(same_text, text, sizeof text);
+        char name[80];
+
+        /* Just long enough, and with more room than that. */
+        uint8_t *out = lend(&one), *more = lend(&two);
+        TubeWritten w = act(c->action, c->numbers, block, block_length, text, text_length, out, length), ample = act(c->action, c->numbers, block, block_length, text, text_length, more, AREA);
+        snprintf(name, sizeof name, "tube_write_action: %s", c->name);
+        expect(name, w.answer == TUBE_DONE && w.length == length && memcmp(out, bytes, length) == 0 && kept(&one, 0, length)
+                         && ample.answer == TUBE_DONE && ample.length == length && memcmp(more, bytes, length) == 0 && kept(&two, 0, length));
+
+        /* One byte short, and every shorter room. */
+        out = lend(&one);
+        for (size_t room = 0; room < length; room++)
+            tight = tight && refuses(act(c->action, c->numbers, block, block_length, text, text_length, out, room), TUBE_BUFFER_SHORT);
+        tight = tight && kept(&one, 0, 0);
+
+        /* Any other number where the action has none. */
+        static const uint8_t others[4] = {1, 0x80, 0x9B, 0xFF};
+        for (int j = 0; j < 4; j++) {
+            uint8_t numbers[4] = {others[j], others[j], others[j], others[j]};
+            memcpy(numbers, c->numbers, (size_t)c->has);
+            out = lend(&one);
+            w = act(c->action, numbers, block, block_length, text, text_length, out, length);
+            unread = unread && w.answer == TUBE_DONE && w.length == length && memcmp(out, bytes, length) == 0 && kept(&one, 0, length);
+        }
+
+        /* A link inside a load needs more until its last byte, and then tells the same. */
+        uint8_t *reply = lend(&two), *own = lend(&three);
+        TubeTold t = last_of(loading, out, length, reply, own);
+        again = again && tells(t, c, own, block, block_length, text, text_length) && kept(&two, 0, 0)
+                && same_link(t.link, c->action == TUBE_TOLD_ERROR || c->action == TUBE_TOLD_RESTART ? tube_link()
+                                     : c->action == TUBE_TOLD_END                                    ? waits
+                                     : c->action == TUBE_TOLD_LOAD                                   ? nested(waits, 3)
+                                     : c->action == TUBE_TOLD_SAVE                                   ? nested(waits, 4)
+                                                                                                     : loading);
+        stay = stay && memcmp(same_block, block, sizeof block) == 0 && memcmp(same_text, text, sizeof text) == 0;
+    }
+    expect("tube_write_action: each with every shorter room", tight);
+    expect("tube_write_action: a number that the action does not have is not read", unread);
+    expect("tube_write_action, tube_link_step: each is told as it was written", again);
+    expect("tube_write_action: the block and the text stay", stay);
+
+    /* A control block of every length. */
+    int blocks = 1;
+    for (size_t length = 0; length <= 300; length++) {
+        uint8_t *out = lend(&one);
+        TubeWritten w = tube_write_action(TUBE_TOLD_BLOCK, 0, 0, 0, 0, letters, length, letters, 0, out, AREA);
+        if (length >= 1 && length <= 127)
+            blocks = blocks && w.answer == TUBE_DONE && w.length == 2 + length && out[0] == 0x9B && out[1] == length && memcmp(out + 2, letters, length) == 0 && kept(&one, 0, 2 + length);
+        else
+            blocks = blocks && refuses(w, TUBE_BAD_FIELD) && kept(&one, 0, 0);
+    }
+    expect("tube_write_action: control blocks of 1 to 127 bytes, and 9 for any other", blocks);
+
+    /* A text of every length, and with a &00 at every place. */
+    int texts = 1, zeros = 1;
+    static uint8_t nothing[300];
+    for (size_t length = 0; length <= 300; length++) {
+        uint8_t *out = lend(&one);
+        TubeWritten w = tube_write_action(TUBE_TOLD_ERROR, 1, 0, 0, 0, letters, 0, letters, length, out, AREA);
+        if (length <= 255)
+            texts = texts && w.answer == TUBE_DONE && w.length == 4 + length && memcmp(out, "\x9B\0\1", 3) == 0 && memcmp(out + 3, letters, length) == 0 && out[3 + length] == 0
+                    && kept(&one, 0, 4 + length);
+        else
+            texts = texts && refuses(w, TUBE_STRING_LONG) && kept(&one, 0, 0);
+        out = lend(&one);
+        if (length > 0)
+            zeros = zeros && refuses(tube_write_action(TUBE_TOLD_ERROR, 0, 0, 0, 0, letters, 0, nothing, length, out, AREA), length <= 255 ? TUBE_BAD_FIELD : TUBE_STRING_LONG);
+        if (length < 255) {
+            memcpy(text, letters, 255);
+            text[length] = 0;
+            zeros = zeros && refuses(tube_write_action(TUBE_TOLD_ERROR, 1, 0, 0, 0, letters, 0, text, 255, out, AREA), TUBE_BAD_FIELD)
+                    && refuses(tube_write_action(TUBE_TOLD_ERROR, 1, 0, 0, 0, letters, 0, text, 255, out, 0), TUBE_BAD_FIELD);
+        }
+        zeros = zeros && kept(&one, 0, 0);
+    }
+    uint8_t *out = lend(&one);
+    zeros = zeros && refuses(tube_write_action(TUBE_TOLD_ERROR, 1, 0, 0, 0, letters, 0, (const uint8_t[3]){0x61, 0x00, 0x62}, 3, out, AREA), TUBE_BAD_FIELD) && kept(&one, 0, 0);
+    expect("tube_write_action: texts of 0 to 255 bytes, and 6 for a longer one", texts);
+    expect("tube_write_action: a &00 at every place of a text", zeros);
+
+    /* Every number that is no action, and a block or text for an action that has none. */
+    int no_action = 1, fitting = 1;
+    for (int i = 0; i < 256; i++) {
+        const uint8_t action = (uint8_t)i;
+        if (!is_action(i)) {
+            no_action = no_action && refuses(tube_write_action(action, 1, 2, 3, 4, letters, 0, letters, 0, out, AREA), TUBE_BAD_FIELD)
+                        && refuses(tube_write_action(action, 1, 2, 3, 4, letters, 0, letters, 0, out, 0), TUBE_BAD_FIELD)
+                        && refuses(tube_write_action(action, 1, 2, 3, 4, letters, 5, letters, 255, out, AREA), TUBE_BAD_FIELD);
+        } else {
+            const size_t has_block = action == TUBE_TOLD_BLOCK;
+            if (!has_block)
+                fitting = fitting && refuses(tube_write_action(action, 1, 2, 3, 4, letters, 1, letters, 0, out, AREA), TUBE_BAD_FIELD)
+                          && refuses(tube_write_action(action, 1, 2, 3, 4, letters, 1, letters, 0, out, 0), TUBE_BAD_FIELD)
+                          && refuses(tube_write_action(action, 1, 2, 3, 4, letters, 300, letters, 0, out, AREA), TUBE_BAD_FIELD);
+            if (action != TUBE_TOLD_ERROR)
+                fitting = fitting && refuses(tube_write_action(action, 1, 2, 3, 4, letters, has_block, letters, 1, out, AREA), TUBE_BAD_FIELD)
+                          && refuses(tube_write_action(action, 1, 2, 3, 4, letters, has_block, letters, 255, out, 0), TUBE_BAD_FIELD);
+        }
+        no_action = no_action && refuses(tube_write_action(action, 1, 2, 3, 4, letters, 0, letters, 256, out, AREA), TUBE_STRING_LONG)
+                    && refuses(tube_write_action(action, 1, 2, 3, 4, letters, 128, nothing, 256, out, 0), TUBE_STRING_LONG);
+    }
+    expect("tube_write_action: no such action, and a long text whatever the action", no_action && is_action(TUBE_TOLD_END) && !is_action(TUBE_TOLD_DATA) && kept(&one, 0, 0));
+    expect("tube_write_action: a block or text for an action that has none", fitting && kept(&one, 0, 0));
+
+    /* Everything wrong at once, then each first answer mended: a long text, a field (the &00, the block), no room. */
+    memset(text, 0, sizeof text);
+    int order = refuses(tube_write_action(TUBE_TOLD_ERROR, 1, 0, 0, 0, letters, 1, text, 256, out, 0), TUBE_STRING_LONG)
+                && refuses(tube_write_action(TUBE_TOLD_ERROR, 1, 0, 0, 0, letters, 1, text, 255, out, 0), TUBE_BAD_FIELD)
+                && refuses(tube_write_action(TUBE_TOLD_ERROR, 1, 0, 0, 0, letters, 1, letters, 255, out, 0), TUBE_BAD_FIELD)
+                && refuses(tube_write_action(TUBE_TOLD_ERROR, 1, 0, 0, 0, letters, 0, letters, 255, out, 0), TUBE_BUFFER_SHORT)
+                && refuses(tube_write_action(TUBE_TOLD_BLOCK, 0, 0, 0, 0, letters, 128, letters, 256, out, 0), TUBE_STRING_LONG)
+                && refuses(tube_write_action(TUBE_TOLD_BLOCK, 0, 0, 0, 0, letters, 128, letters, 0, out, 0), TUBE_BAD_FIELD)
+                && refuses(tube_write_action(TUBE_TOLD_BLOCK, 0, 0, 0, 0, letters, 0, letters, 0, out, 0), TUBE_BAD_FIELD)
+                && refuses(tube_write_action(TUBE_TOLD_BLOCK, 0, 0, 0, 0, letters, 127, letters, 0, out, 0), TUBE_BUFFER_SHORT);
+    expect("tube_write_action: 6 before 9 before 8", order && kept(&one, 0, 0));
+}
+
+static void data_written(void) {
+    /* Data, and its bytes on the lead. */
+    static const struct {
+        const char *data, *bytes;
+    } some[] = {{"", ""}, {"00", "00"}, {"41 42 0D", "41 42 0D"}, {"9B", "9B 9B"}, {"9B 41 9B 9B B0", "9B 9B 41 9B*4 B0"}, {"41*1000", "41*1000"}, {"9B*1000", "9B*2000"}};
+    static uint8_t data[1024], bytes[2048], same[1024];
+    int exact = 1, tight = 1, stay = 1;
+    for (size_t i = 0; i < sizeof some / sizeof some[0]; i++) {
+        const size_t length = bytes_of(some[i].data, data), need = bytes_of(some[i].bytes, bytes);
+        memcpy(same, data, length);
+        uint8_t *out = lend(&one), *more = lend(&two);
+        TubeWritten w = tube_write_data(data, length, out, need), ample = tube_write_data(data, length, more, AREA);
+        exact = exact && w.answer == TUBE_DONE && w.length == need && memcmp(out, bytes, need) == 0 && kept(&one, 0, need)
+                && ample.answer == TUBE_DONE && ample.length == need && memcmp(more, bytes, need) == 0 && kept(&two, 0, need);
+        out = lend(&one);
+        if (need > 0)
+            tight = tight && refuses(tube_write_data(data, length, out, need - 1), TUBE_BUFFER_SHORT) && refuses(tube_write_data(data, length, out, need / 2), TUBE_BUFFER_SHORT)
+                    && refuses(tube_write_data(data, length, out, 0), TUBE_BUFFER_SHORT) && kept(&one, 0, 0);
+        stay = stay && memcmp(same, data, length) == 0;
+    }
+    expect("tube_write_data: none, plain, with escapes, just long enough", exact);
+    expect("tube_write_data: each one byte short, with half the room and with none", tight);
+    expect("tube_write_data: the data stays", stay);
+
+    /* Every byte, read again by a link inside a load. */
+    int every = 1;
+    const TubeLink loading = nested(tube_link(), 1);
+    for (int i = 0; i < 256; i++) {
+        const uint8_t byte = (uint8_t)i;
+        uint8_t *out = lend(&one), *reply = lend(&two), *own = lend(&three);
+        TubeWritten w = tube_write_data(&byte, 1, out, 2);
+        TubeTold t = last_of(loading, out, w.length, reply, own);
+        every = every && w.answer == TUBE_DONE && w.length == (i == TUBE_ESCAPE_BYTE ? 2 : 1) && kept(&one, 0, w.length) && told(t, TUBE_TOLD_DATA, 0, byte, 0, 0, 0)
+                && same_link(t.link, loading) && kept(&two, 0, 0) && kept(&three, 0, 0);
+    }
+    expect("tube_write_data, tube_link_step: every byte is told as it was written", every);
+}
+
+/* What a host sends to an OSBGET that waits, part by part: an action, a byte of load data, or a byte of the reply by its place. The raw bytes, and what is told. */
+typedef struct {
+    const char *name;
+    struct {
+        uint8_t kind, numbers[4]; /* 0 behind the last */
+    } parts[9];
+    const char *raw, *tells;
+    int replies;
+} Stream;
+
+static const Stream streams[] = {
+    {"Escape before a reply, a load inside it",
+     {{TUBE_TOLD_ESCAPE, {1}}, {TUBE_TOLD_REPLY, {0}}, {TUBE_TOLD_LOAD, {0, 0, 0x19, 0}}, {TUBE_TOLD_DATA, {0x9B}}, {TUBE_TOLD_END, {0}}, {TUBE_TOLD_REPLY, {1}}},
+     "9B 81 80 ld 9B 9B 9B B0 41", "02 01 00 00 00 load 0D 9B 00 00 00 loaded 05 00 00 00 00", 1},
+    {"a save and an event inside a load before a reply",
+     {{TUBE_TOLD_LOAD, {0, 0, 0x19, 0}}, {TUBE_TOLD_SAVE, {0, 0, 0x80, 0}}, {TUBE_TOLD_EVENT, {1, 2, 3}}, {TUBE_TOLD_END, {0}}, {TUBE_TOLD_DATA, {0x41}}, {TUBE_TOLD_END, {0}},
+      {TUBE_TOLD_REPLY, {0}}, {TUBE_TOLD_REPLY, {1}}},
+     "ld sv 9B 90 01 02 03 9B B0 41 9B B0 80 41", "load save 03 01 02 03 00 saved 0D 41 00 00 00 loaded 05 00 00 00 00", 1},
+    {"a restart inside a load inside a reply",
+     {{TUBE_TOLD_REPLY, {0}}, {TUBE_TOLD_LOAD, {0, 0, 0x19, 0}}, {TUBE_TOLD_DATA, {0x41}}, {TUBE_TOLD_RESTART, {0}}, {TUBE_TOLD_REPLY, {1}}},
+     "80 ld 41 9B 00 00 00 41", "load 0D 41 00 00 00 07 00 00 00 00 01 41 00 00 00", 0},
+    {"an error inside a reply, a load behind it",
+     {{TUBE_TOLD_REPLY, {0}}, {TUBE_TOLD_ERROR, {7}}, {TUBE_TOLD_LOAD, {0, 0, 0x19, 0}}, {TUBE_TOLD_DATA, {0x42}}, {TUBE_TOLD_END, {0}}, {TUBE_TOLD_REPLY, {1}}},
+     "80 9B 00 07 00 ld 42 9B B0 41", "06 07 00 00 00 load 0D 42 00 00 00 loaded 01 41 00 00 00", 0},
+};
+
+static void streams_written(void) {
+    uint8_t reply_bytes[2], expected[AREA], lines[AREA];
+    TubeWritten both = tube_write_reply(TUBE_SERIAL, TUBE_OSBGET, 0, TUBE_REPLY_CARRY_A, 1, 0, 0, 0x41, letters, 0, letters, 0, reply_bytes, sizeof reply_bytes);
+    for (size_t i = 0; i < sizeof streams / sizeof streams[0]; i++) {
+        const Stream *c = &streams[i];
+        const size_t length = bytes_of(c->raw, expected);
+        char name[120];
+
+        /* Each part goes into the tail that the last one left. */
+        uint8_t *out = lend(&one);
+        size_t at = 0;
+        int written = both.answer == TUBE_DONE && both.length == 2;
+        for (int j = 0; c->parts[j].kind != TUBE_TOLD_MORE; j++) {
+            const uint8_t kind = c->parts[j].kind, *numbers = c->parts[j].numbers;
+            TubeWritten w = {1, TUBE_DONE};
+            if (kind == TUBE_TOLD_REPLY)
+                out[at] = reply_bytes[numbers[0]];
+            else if (kind == TUBE_TOLD_DATA)
+                w = tube_write_data(numbers, 1, out + at, length - at);
+            else
+                w = act(kind, numbers, letters, 0, letters, 0, out + at, length - at);
+            written = written && w.answer == TUBE_DONE;
+            at += w.length;
+        }
+        snprintf(name, sizeof name, "tube_write_action, tube_write_data: %s", c->name);
+        expect(name, written && at == length && memcmp(out, expected, length) == 0 && kept(&one, 0, length));
+
+        /* What each byte tells but need-more, a note for each; the reply at the last byte or not at all. */
+        uint8_t *reply = lend(&two), *own = lend(&three);
+        TubeTold t = {.link = tube_begin(tube_link(), TUBE_OSBGET, 0).link};
+        size_t noted = 0;
+        int replies = 0;
+        for (size_t j = 0; j < at; j++) {
+            t = tube_link_step(t.link, out[j], reply, own);
+            if (t.kind != TUBE_TOLD_MORE) {
+                const uint8_t note[TUBE_NOTE] = {(uint8_t)t.kind, t.first, t.second, t.third, t.fourth};
+                memcpy(lines + noted, note, TUBE_NOTE);
+                noted += TUBE_NOTE;
+            }
+            if (t.kind == TUBE_TOLD_REPLY)
+                replies += j + 1 == at && t.length == 2 && memcmp(reply, "\x80\x41", 2) == 0 ? 1 : 2;
+        }
+        snprintf(name, sizeof name, "tube_link_step: %s", c->name);
+        expect(name, noted == bytes_of(c->tells, expected) && memcmp(lines, expected, noted) == 0 && replies == c->replies && same_link(t.link, tube_link()));
+    }
+}
+
 int main(void) {
     for (size_t i = 0; i < sizeof letters; i++)
         letters[i] = (uint8_t)('A' + i % 26);
@@ -1495,6 +1798,9 @@ int main(void) {
     replies_written();
     replies_read();
     replies_taken();
+    actions_written();
+    data_written();
+    streams_written();
     printf("%d passed, %d failed\n", run - failed, failed);
     return failed != 0;
 }

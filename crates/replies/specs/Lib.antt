@@ -1,2 +1,3 @@
 pub mod Sessions
 pub mod Takes
+pub mod Sends

@@ -25,7 +25,7 @@ underway-stands halted (i ∷ s) l = underway-stands halted s l
 underway-stands (holds f) (i ∷ s) l = underway-stands (holds f) s l
 
 -- the parts of a stream, each as one sign
-parts-said : (o : List Transfer) (S : Standing) (ps : List Part) → allGood o ps ≡ true → (standsAfter S (signsOf o ps) ≡ halted → ⊥)
+pub parts-said : (o : List Transfer) (S : Standing) (ps : List Part) → allGood o ps ≡ true → (standsAfter S (signsOf o ps) ≡ halted → ⊥)
     → says S (signs (inside o) (inputs ps)) ≡ spread ps (says S (signsOf o ps))
 unfolding allGood inputs signs signsOf says spread standsAfter
 parts-said o S [] g h = refl
@@ -53,7 +53,7 @@ unfolding allGood inputs layerAfter openIn
 parts-between o [] g = refl
 parts-between o (p ∷ ps) g = let k = and-both (good o p) (allGood (openAfter o p) ps) g in part-after o p (inputs ps) (k .0) ∙ parts-between (openAfter o p) ps (k .1)
 
-parts-left : (o : List Transfer) (S : Standing) (ps : List Part) → allGood o ps ≡ true
+pub parts-left : (o : List Transfer) (S : Standing) (ps : List Part) → allGood o ps ≡ true
     → linkAfter (linkAt (inside o) S) (inputs ps) ≡ linkAt (inside (openIn o ps)) (standsAfter S (signsOf o ps))
 parts-left o S ps g = layers-after (inside o) S (inputs ps) ∙ rw (parts-between o ps g, parts-stand o S ps g) refl
 

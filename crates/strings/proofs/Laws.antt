@@ -3,7 +3,7 @@ use Prim.Native.Nat.{ℕ, suc, _+_, _≤_, _<_}
 use native.Mathlib.Numerals.{add-one}
 use native.Mathlib.Nat.{add-zero, zero-add}
 use native.Mathlib.Omega.{arith}
-use mathlib.Core.Path.{_≡_, sym, subst, _∙_}
+use mathlib.Core.Path.{_≡_, refl, sym, ap, subst, _∙_}
 use mathlib.Core.Bool.{Bool, true, false, not, _||_, or-assoc, or-false}
 use mathlib.Core.List.{List, [], _∷_, _++_}
 use borrow.Author.Tests.{eqb-true, eq-eqb, ne-eqb, le-leb, lt-leb, not-true}
@@ -11,11 +11,12 @@ use lib.Dec.{eqb}
 use lib.ListN.{length, drop, getD, drop-of-length-le}
 use lib.Seq.{drop-cons, drop-at}
 use Rattle.serial_rules.specs.Call.{osfile, return, stringLimit, bodyOf, blockOk, hasReturn, callOk}
+use Rattle.serial_rules.specs.Session.{hasZero}
 use Rattle.serial_rules.specs.Fields.{fieldsOf, last}
 use Rattle.serial_rules.proofs.Finished.{Request-rewritten}
 use Rattle.serial_rules.proofs.Trip.{and-both, or-false as both-false}
 use Rattle.strings.specs.declared.Text.the-variants.{Found, Refused}
-use Rattle.strings.specs.Text.{stringFrom, nameOf}
+use Rattle.strings.specs.Text.{stringFrom, nameOf, hasByte}
 
 module _ (t : List ℕ) (i : ℕ) where
   pub ends-here : i < length t → getD t i 0 ≡ return → stringFrom i (drop i t) ≡ Found i
@@ -34,17 +35,26 @@ module _ (t : List ℕ) (i : ℕ) where
   unfolding stringFrom
   not-ended h = rw (drop-of-length-le t h)
 
--- Whether &0D stands in a string: among its first i bytes, which is found, or from i on.
-module _ (t : List ℕ) (i : ℕ) (found : Bool) where
-  pub return-more : {more : Bool} → i < length t → more ≡ (found || eqb (getD t i 0) return) → (found || hasReturn (drop i t)) ≡ hasReturn t
-      → (more || hasReturn (drop (i + 1) t)) ≡ hasReturn t
-  unfolding hasReturn
-  return-more h e inv =
-      rw (e, add-one) (or-assoc found (eqb (getD t i 0) return) (hasReturn (drop (suc i) t)) ∙ (rw (drop-cons t i 0 h) at inv))
+-- Whether a byte stands in a string: among its first i bytes, which is found, or from i on.
+module _ (k : ℕ) (t : List ℕ) (i : ℕ) (found : Bool) where
+  pub byte-more : {more : Bool} → i < length t → more ≡ (found || eqb (getD t i 0) k) → (found || hasByte k (drop i t)) ≡ hasByte k t
+      → (more || hasByte k (drop (i + 1) t)) ≡ hasByte k t
+  unfolding hasByte
+  byte-more h e inv = rw (e, add-one) (or-assoc found (eqb (getD t i 0) k) (hasByte k (drop (suc i) t)) ∙ (rw (drop-cons t i 0 h) at inv))
 
-  pub return-all : length t ≤ i → (found || hasReturn (drop i t)) ≡ hasReturn t → found ≡ hasReturn t
-  unfolding hasReturn
-  return-all h inv = sym (or-false found) ∙ (rw (drop-of-length-le t h) at inv)
+  pub byte-all : length t ≤ i → (found || hasByte k (drop i t)) ≡ hasByte k t → found ≡ hasByte k t
+  unfolding hasByte
+  byte-all h inv = sym (or-false found) ∙ (rw (drop-of-length-le t h) at inv)
+
+pub has-return-is : (t : List ℕ) → hasByte return t ≡ hasReturn t
+unfolding hasByte hasReturn
+has-return-is [] = refl
+has-return-is (x ∷ t) = ap (λ (h : Bool). eqb x return || h) (has-return-is t)
+
+pub has-zero-is : (t : List ℕ) → hasByte 0 t ≡ hasZero t
+unfolding hasByte hasZero
+has-zero-is [] = refl
+has-zero-is (x ∷ t) = ap (λ (h : Bool). eqb x 0 || h) (has-zero-is t)
 
 -- a body that ends inside the block
 pub no-name : (body : List ℕ) → length body < 16 → nameOf body ≡ Refused 9

@@ -1,6 +1,6 @@
 -- A string in a whole body: "the name is read from the part of the body that starts after the block".
 use Prim.Native.Nat.{ℕ, _+_}
-use mathlib.Core.Bool.{cond}
+use mathlib.Core.Bool.{Bool, false, cond, _||_}
 use mathlib.Core.List.{List, [], _∷_}
 use lib.Dec.{eqb, leb}
 use lib.ListN.{drop}
@@ -17,3 +17,8 @@ stringFrom n (x ∷ l) = cond (eqb x return) (Found n) (cond (leb stringLimit n)
 -- the name of OSFILE, behind its block
 abbrev pub nameOf : List ℕ → Text
 nameOf body = stringFrom 0 (drop fileBlock body)
+
+-- whether the byte e stands in l
+unfoldable pub hasByte : ℕ → List ℕ → Bool
+hasByte e [] = false
+hasByte e (x ∷ l) = eqb x e || hasByte e l
