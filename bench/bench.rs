@@ -5,6 +5,7 @@
 use std::process::ExitCode;
 
 mod chip;
+mod host;
 mod measure;
 mod replies;
 mod requests;
@@ -17,6 +18,10 @@ mod interface;
 #[allow(dead_code)]
 #[path = "../second/link.rs"]
 mod link;
+
+#[allow(dead_code)]
+#[path = "../second/host.rs"]
+mod second_host;
 
 // Once more, so that what reads single bytes has one caller here too, as in the
 // library.
@@ -32,7 +37,12 @@ use measure::Table;
 
 fn main() -> ExitCode {
     let markdown = std::env::args().skip(1).any(|one| one == "--markdown");
-    let parts: [fn() -> Option<Vec<Table>>; 3] = [chip::tables, requests::tables, replies::tables];
+    let parts: [fn() -> Option<Vec<Table>>; 4] = [
+        chip::tables,
+        requests::tables,
+        replies::tables,
+        host::tables,
+    ];
     for part in parts {
         let Some(tables) = part() else {
             println!("FAILED: answers differ");

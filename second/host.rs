@@ -145,21 +145,101 @@ impl Order {
         Ok(action)
     }
 
+    /// The mark and the data bytes behind it, in three parts, or the same refusal.
+    fn parts(&self) -> Result<(u8, [&[u8]; 3]), u8> {
+        let (numbers, block, text) = (&self.numbers, &self.block[..], &self.text[..]);
+        if text.len() > LONGEST_TEXT {
+            return Err(LONG_TEXT);
+        }
+        let (mark, own): (u8, &[u8]) = match (self.kind, block, text) {
+            (2, [], []) => (0x80 + (numbers[0] != 0) as u8, &[]),
+            (3, [], []) => (0x90, &numbers[..3]),
+            (4, [], []) => (0xC0, numbers),
+            (6, [], _) if !text.contains(&TEXT_END) => {
+                return Ok((0x00, [&numbers[..1], text, &[TEXT_END]]));
+            }
+            (7, [], []) => (0x00, &[0, TEXT_END]),
+            (9, [_, ..], []) if block.len() <= LONGEST_BLOCK => (block.len() as u8, block),
+            (10, [], []) => (0xD0, numbers),
+            (11, [], []) => (0xE0, numbers),
+            (12, [], []) => (0xF0, numbers),
+            (14, [], []) => (0xB0, &[]),
+            _ => return Err(BROKEN_RULE),
+        };
+        Ok((mark, [own, &[], &[]]))
+    }
+
     /// Writes the action to the start of `out`: the length, or the refusal.
     pub fn write(&self, out: &mut [u8]) -> Result<usize, u8> {
-        put(&self.action()?.encode(), out)
+        let (mark, parts) = self.parts()?;
+        let size = 2 + parts
+            .iter()
+            .map(|part| part.len() + escapes(part))
+            .sum::<usize>();
+        let mut rest = out.get_mut(..size).ok_or(SHORT_BUFFER)?;
+        rest[..2].copy_from_slice(&[ESCAPE, mark]);
+        rest = &mut rest[2..];
+        for part in parts {
+            let put = put_data(part, rest);
+            rest = &mut rest[put..];
+        }
+        Ok(size)
     }
 }
 
 /// Writes load data to the start of `out`: the length, or the refusal.
 pub fn write_data(bytes: &[u8], out: &mut [u8]) -> Result<usize, u8> {
-    put(&encode_data(bytes), out)
+    let size = bytes.len() + escapes(bytes);
+    let out = out.get_mut(..size).ok_or(SHORT_BUFFER)?;
+    if size == bytes.len() {
+        out.copy_from_slice(bytes);
+    } else {
+        put_data(bytes, out);
+    }
+    Ok(size)
 }
 
-fn put(raw: &[u8], out: &mut [u8]) -> Result<usize, u8> {
-    let place = out.get_mut(..raw.len()).ok_or(SHORT_BUFFER)?;
-    place.copy_from_slice(raw);
-    Ok(raw.len())
+/// How many of the bytes are doubled.
+fn escapes(bytes: &[u8]) -> usize {
+    // A piece is so short that a byte counts its escapes.
+    let counted = |piece: &[u8]| piece.iter().map(|&byte| (byte == ESCAPE) as u8).sum::<u8>();
+    bytes.chunks(128).map(|piece| counted(piece) as usize).sum()
+}
+
+/// Whether an escape is among eight bytes: with its bits taken away it is the byte 0,
+/// the lowest of which borrows into a top bit that it does not have.
+fn has_escape(bytes: &[u8; 8]) -> bool {
+    let all = |byte| u64::from_ne_bytes([byte; 8]);
+    let apart = u64::from_ne_bytes(*bytes) ^ all(ESCAPE);
+    apart.wrapping_sub(all(0x01)) & !apart & all(0x80) != 0
+}
+
+/// Puts data bytes to the start of `out`, which has the room: the length.
+fn put_data(bytes: &[u8], out: &mut [u8]) -> usize {
+    let (pieces, rest) = bytes.as_chunks::<8>();
+    let mut at = 0;
+    for piece in pieces {
+        if has_escape(piece) {
+            at += put_each(piece, &mut out[at..]);
+        } else {
+            out[at..at + 8].copy_from_slice(piece);
+            at += 8;
+        }
+    }
+    at + put_each(rest, &mut out[at..])
+}
+
+#[inline]
+fn put_each(bytes: &[u8], out: &mut [u8]) -> usize {
+    let mut at = 0;
+    for &byte in bytes {
+        // The same place twice, unless the byte is doubled.
+        let last = at + (byte == ESCAPE) as usize;
+        out[at] = byte;
+        out[last] = byte;
+        at = last + 1;
+    }
+    at
 }
 
 // ---- What is sent with a reply ----

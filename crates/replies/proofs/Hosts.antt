@@ -166,3 +166,10 @@ slices-session sent.stop = session.stop
 slices-session {l} {q} {reply} {own} {reply-end} {own-end} (sent.ran {raw = x} {others = y} {reports = s} {told = t} d w) =
     subst (λ (i : List Input). Sessions l reply own i (map report (s ++ t)) q reply-end own-end) (sym (raws-append x y))
     (subst (λ (m : List Told). Sessions l reply own (map raw x ++ map raw y) m q reply-end own-end) (sym (reports-append s t)) (joined (loop-session d) (slices-session w)))
+
+pub served-in-slices : {left lent own lent-end own-end raws : List ℕ} {r : Written} {o : Started} {q : Link} {reports : List link.Report} (kind kind′ : CallKind) (reply : Reply) (b t out : List ℕ) (is : List Item)
+    → Reply-written serial kind reply b t out r left → number r ≡ 0 → kindFor kind ≡ kindFor kind′ → Begin-done fresh kind′ o
+    → Sends is raws → replyIn is ≡ rules.replyBytes (replyFor reply) b t → stands [] is ≡ true → closes is ≡ true
+    → Slices (o .link) lent own raws reports q lent-end own-end
+    → Served (kindFor kind′) (rules.given (replyFor reply) b t) is (wrote r left) (begunOf (o .answer)) (map report reports) (viewOf q lent-end own-end)
+served-in-slices kind kind′ reply b t out is d e same begin s whole st c slices = served kind kind′ reply b t out is d e same begin s whole st c (slices-session slices)
