@@ -145,77 +145,80 @@ impl Order {
         Ok(action)
     }
 
-    /// The mark and the data bytes behind it, in three parts, or the same refusal.
-    fn parts(&self) -> Result<(u8, [&[u8]; 3]), u8> {
+    /// Writes the action to the start of `out`: the length, or the refusal.
+    pub fn write(&self, out: &mut [u8]) -> Result<usize, u8> {
         let (numbers, block, text) = (&self.numbers, &self.block[..], &self.text[..]);
         if text.len() > LONGEST_TEXT {
             return Err(LONG_TEXT);
         }
-        let (mark, own): (u8, &[u8]) = match (self.kind, block, text) {
-            (2, [], []) => (0x80 + (numbers[0] != 0) as u8, &[]),
-            (3, [], []) => (0x90, &numbers[..3]),
-            (4, [], []) => (0xC0, numbers),
+        match (self.kind, block, text) {
+            (2, [], []) => put([ESCAPE, 0x80 + (numbers[0] != 0) as u8], [], out),
+            (3, [], []) => put([ESCAPE, 0x90], [&numbers[..3]], out),
+            (4, [], []) => put([ESCAPE, 0xC0], [numbers], out),
             (6, [], _) if !text.contains(&TEXT_END) => {
-                return Ok((0x00, [&numbers[..1], text, &[TEXT_END]]));
+                put([ESCAPE, 0x00], [&numbers[..1], text, &[TEXT_END]], out)
             }
-            (7, [], []) => (0x00, &[0, TEXT_END]),
-            (9, [_, ..], []) if block.len() <= LONGEST_BLOCK => (block.len() as u8, block),
-            (10, [], []) => (0xD0, numbers),
-            (11, [], []) => (0xE0, numbers),
-            (12, [], []) => (0xF0, numbers),
-            (14, [], []) => (0xB0, &[]),
-            _ => return Err(BROKEN_RULE),
-        };
-        Ok((mark, [own, &[], &[]]))
-    }
-
-    /// Writes the action to the start of `out`: the length, or the refusal.
-    pub fn write(&self, out: &mut [u8]) -> Result<usize, u8> {
-        let (mark, parts) = self.parts()?;
-        let size = 2 + parts
-            .iter()
-            .map(|part| part.len() + escapes(part))
-            .sum::<usize>();
-        let mut rest = out.get_mut(..size).ok_or(SHORT_BUFFER)?;
-        rest[..2].copy_from_slice(&[ESCAPE, mark]);
-        rest = &mut rest[2..];
-        for part in parts {
-            let put = put_data(part, rest);
-            rest = &mut rest[put..];
+            (7, [], []) => put([ESCAPE, 0x00, 0, TEXT_END], [], out),
+            (9, [_, ..], []) if block.len() <= LONGEST_BLOCK => {
+                put([ESCAPE, block.len() as u8], [block], out)
+            }
+            (10, [], []) => put([ESCAPE, 0xD0], [numbers], out),
+            (11, [], []) => put([ESCAPE, 0xE0], [numbers], out),
+            (12, [], []) => put([ESCAPE, 0xF0], [numbers], out),
+            (14, [], []) => put([ESCAPE, 0xB0], [], out),
+            _ => Err(BROKEN_RULE),
         }
-        Ok(size)
     }
 }
 
 /// Writes load data to the start of `out`: the length, or the refusal.
 pub fn write_data(bytes: &[u8], out: &mut [u8]) -> Result<usize, u8> {
-    let size = bytes.len() + escapes(bytes);
-    let out = out.get_mut(..size).ok_or(SHORT_BUFFER)?;
-    if size == bytes.len() {
-        out.copy_from_slice(bytes);
-    } else {
-        put_data(bytes, out);
+    put([], [bytes], out)
+}
+
+/// Puts raw bytes and then data bytes to the start of `out`: the length, or the
+/// refusal where they do not fit.
+#[inline(always)]
+fn put<const RAW: usize, const PARTS: usize>(
+    raw: [u8; RAW],
+    data: [&[u8]; PARTS],
+    out: &mut [u8],
+) -> Result<usize, u8> {
+    let (mut plain, mut doubled) = (RAW, 0);
+    for part in data {
+        plain += part.len();
+        doubled += escapes(part);
+    }
+    let size = plain + doubled;
+    let (start, mut rest) = out.get_mut(..size).ok_or(SHORT_BUFFER)?.split_at_mut(RAW);
+    start.copy_from_slice(&raw);
+    for part in data {
+        let length = if doubled == 0 {
+            rest[..part.len()].copy_from_slice(part);
+            part.len()
+        } else {
+            put_escaped(part, rest)
+        };
+        rest = &mut rest[length..];
     }
     Ok(size)
 }
 
 /// How many of the bytes are doubled.
+#[inline(always)]
 fn escapes(bytes: &[u8]) -> usize {
     // A piece is so short that a byte counts its escapes.
     let counted = |piece: &[u8]| piece.iter().map(|&byte| (byte == ESCAPE) as u8).sum::<u8>();
-    bytes.chunks(128).map(|piece| counted(piece) as usize).sum()
-}
-
-/// Whether an escape is among eight bytes: with its bits taken away it is the byte 0,
-/// the lowest of which borrows into a top bit that it does not have.
-fn has_escape(bytes: &[u8; 8]) -> bool {
-    let all = |byte| u64::from_ne_bytes([byte; 8]);
-    let apart = u64::from_ne_bytes(*bytes) ^ all(ESCAPE);
-    apart.wrapping_sub(all(0x01)) & !apart & all(0x80) != 0
+    let (pieces, rest) = bytes.as_chunks::<128>();
+    let mut count = counted(rest) as usize;
+    for piece in pieces {
+        count += counted(piece) as usize;
+    }
+    count
 }
 
 /// Puts data bytes to the start of `out`, which has the room: the length.
-fn put_data(bytes: &[u8], out: &mut [u8]) -> usize {
+fn put_escaped(bytes: &[u8], out: &mut [u8]) -> usize {
     let (pieces, rest) = bytes.as_chunks::<8>();
     let mut at = 0;
     for piece in pieces {
@@ -229,17 +232,26 @@ fn put_data(bytes: &[u8], out: &mut [u8]) -> usize {
     at + put_each(rest, &mut out[at..])
 }
 
-#[inline]
+/// The same, byte by byte.
+#[inline(always)]
 fn put_each(bytes: &[u8], out: &mut [u8]) -> usize {
     let mut at = 0;
     for &byte in bytes {
-        // The same place twice, unless the byte is doubled.
-        let last = at + (byte == ESCAPE) as usize;
+        // No branch: what is sent once is put into its place twice.
+        let times = if byte == ESCAPE { 2 } else { 1 };
         out[at] = byte;
-        out[last] = byte;
-        at = last + 1;
+        out[at + times - 1] = byte;
+        at += times;
     }
     at
+}
+
+/// Whether an escape is among eight bytes, all looked at together.
+fn has_escape(piece: &[u8; 8]) -> bool {
+    let each = |byte| u64::from_ne_bytes([byte; 8]);
+    // Less 1, a 0 gets the top bit that it did not have; others do only by its borrow.
+    let zero_at_escape = u64::from_ne_bytes(*piece) ^ each(ESCAPE);
+    zero_at_escape.wrapping_sub(each(0x01)) & !zero_at_escape & each(0x80) != 0
 }
 
 // ---- What is sent with a reply ----
@@ -523,6 +535,98 @@ mod tests {
         assert_eq!(write(&plain, 6), Err(8));
         assert_eq!(write(&[0x9B; 3000], 6000), Ok(vec![0x9B; 6000]));
         assert_eq!(write(&[0x9B; 3000], 5999), Err(8));
+    }
+
+    /// Compares a writer with the model, in rooms about the length.
+    fn same(model: Result<Vec<u8>, u8>, write: impl Fn(&mut [u8]) -> Result<usize, u8>) {
+        let size = model.as_ref().map_or(0, Vec::len);
+        for room in size.saturating_sub(1)..=size + 1 {
+            let expected = match &model {
+                Ok(_) if room < size => Err(8),
+                other => other.clone(),
+            };
+            assert_eq!(written(room, &write), expected, "room {room}");
+        }
+    }
+
+    fn same_order(kind: u8, numbers: [u8; 4], block: &[u8], text: &[u8]) {
+        let order = Order {
+            kind,
+            numbers,
+            block: block.to_vec(),
+            text: text.to_vec(),
+        };
+        let model = order.action().map(|action| action.encode());
+        same(model, |out| order.write(out));
+    }
+
+    /// Bytes with escapes where they are asked for; the others are nearly escapes.
+    fn placed(length: usize, escape: impl Fn(usize) -> bool) -> Vec<u8> {
+        let other = |at| [0x9A, 0x9C, 0x1B, 0xFF, 0x01, 0x80, 0x41][at % 7];
+        let byte = |at| if escape(at) { 0x9B } else { other(at) };
+        (0..length).map(byte).collect()
+    }
+
+    /// Whether an escape is at a place of so many bytes.
+    const PLACES: [fn(usize, usize) -> bool; 16] = [
+        |_, _| false,
+        |_, _| true,
+        |at, _| at == 0,
+        |at, length| at + 1 == length,
+        |at, length| at == length / 2,
+        |at, length| at == 0 || at + 1 == length,
+        |at, length| at > 0 && at + 1 < length,
+        |at, _| at % 2 == 0,
+        |at, _| at % 2 == 1,
+        // The ends of pieces, each place of one in turn, whole ones in turn.
+        |at, _| at % 8 == 0,
+        |at, _| at % 8 == 7,
+        |at, _| at % 9 == 0,
+        |at, _| at % 16 < 8,
+        |at, _| at % 17 < 2,
+        |at, _| at % 128 == 0,
+        |at, _| at % 128 == 127,
+    ];
+
+    #[test]
+    fn actions_as_the_model() {
+        for kind in 0..=255 {
+            for places in 0..16 {
+                let escape = |at| places >> at & 1 == 1;
+                let numbers: [u8; 4] = placed(4, escape).try_into().unwrap();
+                for (block, text) in [("", ""), ("x", ""), ("", "x"), ("x", "x"), ("", "\0")] {
+                    same_order(kind, numbers, block.as_bytes(), text.as_bytes());
+                }
+            }
+            same_order(kind, [0; 4], b"", b"");
+        }
+        for length in 0..=257 {
+            for places in PLACES {
+                let bytes = placed(length, |at| places(at, length));
+                same_order(6, [0x9B; 4], b"", &bytes);
+                same_order(6, [0; 4], b"", &bytes);
+                same_order(9, [0x9B; 4], &bytes, b"");
+            }
+        }
+    }
+
+    #[test]
+    fn data_as_the_model() {
+        let same_data = |bytes: &[u8]| same(Ok(encode_data(bytes)), |out| write_data(bytes, out));
+        for length in 0..=600 {
+            for places in PLACES {
+                same_data(&placed(length, |at| places(at, length)));
+            }
+        }
+        // Escapes at all sets of places, and at each place alone.
+        for length in 0..=10 {
+            for places in 0..1 << length {
+                same_data(&placed(length, |at| places >> at & 1 == 1));
+            }
+        }
+        for place in 0..300 {
+            same_data(&placed(300, |at| at == place));
+        }
     }
 
     // ---- Streams to an OSBGET ----

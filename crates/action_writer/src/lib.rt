@@ -1,4 +1,4 @@
-// The writer of the actions and of the load data that a host sends on the serial lead.
+// The writer of the actions that a host sends on the serial lead.
 use action_parts::Parts;
 use action_parts::Sent;
 use carrier::Carrier;
@@ -11,7 +11,7 @@ ghost use lib.ListN.{length};
 ghost use Rattle.serial_rules.specs.Escape.{escape, escaped};
 ghost use Rattle.fields.specs.Promise.{Encoded};
 ghost use Rattle.action_parts.specs.Parts.{partsOwn};
-ghost use Rattle.action_writer.specs.Promise.{Action-written, Data-written};
+ghost use Rattle.action_writer.specs.Promise.{Action-written};
 
 // Writes an action into the start of `out`: the escape, the mark and its own bytes with each escape byte doubled. The checks come in the order of their
 // answers; a refused action has touched no byte.
@@ -47,11 +47,4 @@ fn write(parts: Parts, block: &[u8], text: &[u8], out: &mut [u8]) -> Written
         &tail[..behind],
         out,
     )
-}
-
-// Writes load data into the start of `out`, each escape byte doubled. Where it does not fit nothing is written.
-pub fn write_data(bytes: &[u8], out: &mut [u8]) -> Written
-    ensures { λ r. ⌜ Data-written (now (bytes .entry)) (now (out .entry)) r (now (out .exit)) ⌝ }
-{
-    fields::write_fields(Carrier::Serial, &[], bytes, &[], &[], &[], out)
 }

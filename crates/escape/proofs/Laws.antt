@@ -8,7 +8,7 @@ use mathlib.Core.Bool.{Bool, true, false, cond, _||_, or-assoc, or-false}
 use mathlib.Core.List.{List, [], _∷_, _++_, append-assoc, append-nil}
 use borrow.Author.Tests.{lt-ltb}
 use lib.Dec.{eqb, ltb}
-use lib.ListN.{length, take, drop, getD, set, length-append, length-drop, length-take, drop-of-length-le}
+use lib.ListN.{length, take, drop, getD, set, length-append, length-drop, length-take, drop-of-length-le, take-append-drop}
 use lib.Seq.{take-at, drop-at, drop-drop, drop-cons, set-at, take-suc, take-all}
 use Rattle.serial_rules.specs.Escape.{escape, escapes}
 use Rattle.escape.specs.Layer.{isEscape}
@@ -72,6 +72,19 @@ module _ (l : List ℕ) (i : ℕ) where
   pub escapes-none : length l ≤ i → escapes (drop i l) ≡ 0
   unfolding escapes
   escapes-none h = rw (drop-of-length-le l h)
+
+-- the escape bytes of a piece from i to e, and of what is behind it
+escapes-append : (a b : List ℕ) → escapes (a ++ b) ≡ escapes a + escapes b
+unfolding escapes
+escapes-append [] b = sym (zero-add (escapes b))
+escapes-append (x ∷ a) b = rw (escapes-append a b) (omega arith)
+
+pub escapes-piece : (l : List ℕ) (i e : ℕ) → i ≤ e → escapes (drop i l) ≡ escapes (take (e - i) (drop i l)) + escapes (drop e l)
+escapes-piece l i e h =
+    let k : i + (e - i) ≡ e = omega arith in
+    ap escapes (sym (take-append-drop (e - i) (drop i l)))
+    ∙ escapes-append (take (e - i) (drop i l)) (drop (e - i) (drop i l))
+    ∙ ap (λ (m : List ℕ). escapes (take (e - i) (drop i l)) + escapes m) (drop-drop (e - i) i l ∙ ap (λ (n : ℕ). drop n l) k)
 
 -- Whether an escape byte stands among bytes: among the first i, which is found, or from i on.
 some-more : (t : Bool) (n : ℕ) → ltb 0 (cond t 1 0 + n) ≡ (t || ltb 0 n)

@@ -3,6 +3,7 @@ ghost use Prim.Native.Nat.{_≤_};
 ghost use mathlib.Core.Path.{_≡_};
 ghost use mathlib.Core.Bool.{_||_};
 ghost use lib.Dec.{eqb, ltb};
+ghost use lib.ListN.{length};
 ghost use Rattle.serial_rules.specs.Escape.{escape, pieceOf, escapes};
 ghost use Rattle.escape.specs.Layer.{pieceFor, isEscape};
 ghost use Rattle.escape.specs.Units.{unitAt, unitFor};
@@ -64,14 +65,30 @@ pub fn unit_at(raw: &[u8], i: usize) -> Unit
     Unit::Gone
 }
 
-// How many of the bytes are escape bytes.
+// The bytes of a piece that are counted in one byte.
+const PIECE: usize = 128;
+
+// How many of the bytes are escape bytes: by pieces, so that many bytes are counted at once.
 pub fn count_escapes(bytes: &[u8]) -> usize
     ensures { λ r. ⌜ r ≡ escapes (now (bytes .entry)) ⌝ }
 {
     let mut n: usize = 0;
     let mut i: usize = 0;
+    while PIECE <= bytes.len() - i {
+        n += count_piece(&bytes[i..i + PIECE]) as usize;
+        i += PIECE;
+    }
+    n + count_piece(&bytes[i..]) as usize
+}
+
+fn count_piece(bytes: &[u8]) -> u8
+    requires { ⌜ length (now bytes) ≤ 128 ⌝ }
+    ensures { λ r. ⌜ (r ≡ escapes (now (bytes .entry))) × (r ≤ length (now (bytes .entry))) ⌝ }
+{
+    let mut n: u8 = 0;
+    let mut i: usize = 0;
     while i < bytes.len() {
-        n += is_escape(bytes[i]);
+        n += is_escape(bytes[i]) as u8;
         i += 1;
     }
     n

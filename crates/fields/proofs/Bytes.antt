@@ -1,5 +1,5 @@
 -- The raw bytes of one data byte, and of one more.
-use Prim.Native.Nat.{ℕ, _+_, _≤_, _<_}
+use Prim.Native.Nat.{ℕ, _+_, _-_, _≤_, _<_}
 use native.Mathlib.Numerals.{add-one}
 use native.Mathlib.Omega.{arith}
 use mathlib.Core.Path.{_≡_, refl, ap, _∙_}
@@ -7,7 +7,7 @@ use mathlib.Core.Bool.{Bool, true, false, cond}
 use mathlib.Core.List.{List, [], _∷_, _++_}
 use lib.ListN.{length, take, drop, getD, set, length-append, take-append-drop}
 use lib.Dec.{eqb}
-use lib.Seq.{take-suc}
+use lib.Seq.{take-suc, take-add}
 use borrow.Author.Tests.{eqb-true}
 use Rattle.serial_rules.specs.Escape.{escape, escaped}
 use Rattle.serial_rules.proofs.Escape.{escaped-append, escaped-one}
@@ -57,3 +57,15 @@ pub escaped-room : (l : List ℕ) (i : ℕ) → i < length l
 escaped-room l i h =
     let e : escaped l ≡ escaped (take (i + 1) l) ++ escaped (drop (i + 1) l) = rw (← escaped-append, take-append-drop) in
     rw (e, escaped-more l i h, length-append, length-append) (omega arith)
+
+-- The data bytes from i to e, behind the first i: their raw bytes behind those of the first, for which there is room.
+module _ (l : List ℕ) (i e : ℕ) (h : i ≤ e) where
+  pub piece-more : escaped (take e l) ≡ escaped (take i l) ++ escaped (take (e - i) (drop i l))
+  piece-more =
+      let k : e ≡ i + (e - i) = omega arith in
+      ap (λ (n : ℕ). escaped (take n l)) k ∙ ap escaped (take-add i (e - i) l) ∙ escaped-append (take i l) (take (e - i) (drop i l))
+
+  pub piece-room : length (escaped (take i l)) + length (escaped (take (e - i) (drop i l))) ≤ length (escaped l)
+  piece-room =
+      let w : escaped l ≡ escaped (take e l) ++ escaped (drop e l) = rw (← escaped-append, take-append-drop) in
+      rw (w, piece-more, length-append, length-append) (omega arith)

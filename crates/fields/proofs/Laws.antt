@@ -25,7 +25,7 @@ plain-more : (x : ℕ) (l : List ℕ) (t : Bool) → (escapes l ≡ 0 → escape
 plain-more x l true rest h = absurd (omega (arith, h))
 plain-more x l false rest h = ap (λ (s : List ℕ). x ∷ s) (rest (omega (arith, h)))
 
-all-plain : (l : List ℕ) → escapes l ≡ 0 → escaped l ≡ l
+pub all-plain : (l : List ℕ) → escapes l ≡ 0 → escaped l ≡ l
 unfolding escaped escapes
 all-plain [] h = refl
 all-plain (x ∷ l) h = plain-more x l (eqb x escape) (all-plain l) h

@@ -8,6 +8,11 @@ ghost use Rattle.escape.specs.Put.{Put};
 ghost use Rattle.room.specs.Carriers.{coded, partsRaw};
 ghost use Rattle.fields.specs.Promise.{Encoded};
 
+// The bytes of a piece of load data that is looked at and copied at once, and of a smaller one.
+const PIECE: usize = 128;
+
+const EIGHT: usize = 8;
+
 // The answers of a writer: the length of the encoding written; a string over 255 bytes; a field that breaks its rule; too little room.
 pub enum Written {
     Done(usize),
@@ -33,6 +38,24 @@ pub fn write_fields(
         return Written::Done(put_parts(carrier, heading, first, second, third, fourth, out));
     }
     Written::NoRoom
+}
+
+// Writes data bytes on the serial lead into the start of `out`, each escape byte doubled. They are looked through once, and where they do not fit nothing is
+// written.
+pub fn write_data(bytes: &[u8], out: &mut [u8]) -> Written
+    ensures { λ r. ⌜ Encoded (escaped (now (bytes .entry))) (now (out .entry)) r (now (out .exit)) ⌝ }
+{
+    if out.len() < bytes.len() {
+        return Written::NoRoom;
+    }
+    let more = escape::count_escapes(bytes);
+    if out.len() - bytes.len() < more {
+        return Written::NoRoom;
+    }
+    if more == 0 {
+        return Written::Done(put_plain(bytes, out));
+    }
+    Written::Done(put_pieces(bytes, out))
 }
 
 // Writes the whole, for which there is room; returns how many bytes. Each field goes into the tail that those before it leave.
@@ -107,6 +130,45 @@ fn put_serial(bytes: &[u8], out: &mut [u8]) -> usize
         return put_bytes(bytes, out);
     }
     put_plain(bytes, out)
+}
+
+// Many data bytes, most of which are no escape bytes: in pieces, and those with an escape byte in smaller ones.
+fn put_pieces(bytes: &[u8], out: &mut [u8]) -> usize
+    requires { ⌜ length (escaped (now bytes)) ≤ length (now out) ⌝ }
+    ensures { λ r. ⌜ Put (escaped (now (bytes .entry))) (now (out .entry)) (now (out .exit)) r ⌝ }
+{
+    let mut at: usize = 0;
+    let mut i: usize = 0;
+    while PIECE <= bytes.len() - i {
+        at += put_piece(&bytes[i..i + PIECE], &mut out[at..]);
+        i += PIECE;
+    }
+    let n = put_eights(&bytes[i..], &mut out[at..]);
+    at + n
+}
+
+fn put_piece(bytes: &[u8], out: &mut [u8]) -> usize
+    requires { ⌜ length (escaped (now bytes)) ≤ length (now out) ⌝ }
+    ensures { λ r. ⌜ Put (escaped (now (bytes .entry))) (now (out .entry)) (now (out .exit)) r ⌝ }
+{
+    if escape::has_escape(bytes) {
+        return put_eights(bytes, out);
+    }
+    put_plain(bytes, out)
+}
+
+fn put_eights(bytes: &[u8], out: &mut [u8]) -> usize
+    requires { ⌜ length (escaped (now bytes)) ≤ length (now out) ⌝ }
+    ensures { λ r. ⌜ Put (escaped (now (bytes .entry))) (now (out .entry)) (now (out .exit)) r ⌝ }
+{
+    let mut at: usize = 0;
+    let mut i: usize = 0;
+    while EIGHT <= bytes.len() - i {
+        at += put_serial(&bytes[i..i + EIGHT], &mut out[at..]);
+        i += EIGHT;
+    }
+    let n = put_bytes(&bytes[i..], &mut out[at..]);
+    at + n
 }
 
 // Writes data bytes with each escape byte doubled.

@@ -5,12 +5,14 @@ use mathlib.Core.Bool.{cond, not}
 use mathlib.Core.List.{List}
 use lib.Dec.{eqb, ltb}
 use lib.ListN.{length}
+use Rattle.serial_rules.specs.Escape.{escaped}
 use Rattle.serial_rules.specs.Call.{stringLimit}
 use Rattle.fields.specs.declared.Written.{Written}
+use Rattle.fields.specs.Promise.{Encoded}
 use Rattle.actions.specs.declared.Target.the-variants.{Set, Execute, Load, Save}
 use Rattle.action_parts.specs.declared.Sent.{Sent}
 use Rattle.action_parts.specs.declared.Sent.the-variants.{Error, Restart, EscapeState, Event, Address, Block, End}
-use Rattle.action_writer.specs.Promise.{Action-written, Data-written}
+use Rattle.action_writer.specs.Promise.{Action-written}
 use Rattle.flat.specs.declared.FlatWritten.{FlatWritten}
 use Rattle.flat.specs.Flat.{flatWritten, unwrittenWith}
 use Rattle.flat_action.specs.declared.Named.{Named}
@@ -49,5 +51,5 @@ pub record Flat-action-done (named : Named) (b t out : List ℕ) (r : FlatWritte
 -- What `write_data` promises of the bytes, the lent bytes before and after, and the result.
 pub record Flat-data-done (bytes out : List ℕ) (r : FlatWritten) (left : List ℕ) : Type 0 where
   pub written : Written
-  pub done : Data-written bytes out written left
+  pub done : Encoded (escaped bytes) out written left
   pub is : r ≡ flatWritten written

@@ -80,9 +80,9 @@ fn placed(target: Target, first: u8, second: u8, third: u8, fourth: u8) -> Named
     })
 }
 
-// Writes load data: see `action_writer::write_data`.
+// Writes load data: see `fields::write_data`.
 pub fn write_data(bytes: &[u8], out: &mut [u8]) -> FlatWritten
     ensures { λ r. ⌜ Flat-data-done (now (bytes .entry)) (now (out .entry)) r (now (out .exit)) ⌝ }
 {
-    flat::flat_written(action_writer::write_data(bytes, out))
+    flat::flat_written(fields::write_data(bytes, out))
 }

@@ -3,20 +3,20 @@
 use Prim.Native.Nat.{ℕ}
 use mathlib.Core.Path.{_≡_, refl, sym, ap, _∙_}
 use mathlib.Core.Bool.{true, false, cond, not, _&&_, _||_, true≢false}
-use mathlib.Core.List.{List, [], _∷_, _++_, map}
+use mathlib.Core.List.{List, [], _∷_, _++_, map, append-nil}
 use lib.Dec.{eqb, leb, ltb}
 use lib.ListN.{length}
 use Rattle.serial_rules.specs.Escape.{escaped}
 use Rattle.serial_rules.specs.Marks.{inwardClass}
 use Rattle.serial_rules.specs.Call.{stringLimit}
-use Rattle.serial_rules.specs.Link.{Transfer, setting, executing, opening, load, save, place, needMore, acted, failed, Frame, idleFrame, Standing, holds, Met, met, meets, live, linkAt}
-use Rattle.serial_rules.specs.Session.{Input, raw, Told, report, tells, Sign, token, signs, says, hasZero, someOpen, openAfter, good, inputsOf, signOf, fill, behind, inside}
+use Rattle.serial_rules.specs.Link.{Transfer, setting, executing, opening, load, save, place, needMore, acted, failed, Frame, idleFrame, Standing, holds, Met, met, meets, Link, live, linkAt}
+use Rattle.serial_rules.specs.Session.{Input, raw, Told, report, tells, linkAfter, Sign, token, signs, says, standsAfter, hasZero, someOpen, openAfter, openIn, good, allGood, inputsOf, inputs, signOf, signsOf, fill, behind, inside}
 use Rattle.serial_rules.proofs.Trip.{and-both}
 use Rattle.serial_rules.proofs.Session.{layers-told}
 use Rattle.serial_rules.proofs.Parts.{part-signs}
-use Rattle.serial_rules.proofs.Actions.{underway-said}
+use Rattle.serial_rules.proofs.Actions.{underway-said, parts-left, left-append}
 use Rattle.host_rules.specs.Actions.{Sent, failing, restarting, escapeState, event, address, control, ending, blockFits, hasText, sentRaw, sentOk, partOf}
-use Rattle.host_rules.specs.Streams.{mayAct, telling, endsCall, Action-heard}
+use Rattle.host_rules.specs.Streams.{mayAct, telling, endsCall, linkBehind, Action-heard}
 
 pub sent-raw : (a : Sent) (b t : List ℕ) → sentOk a b t ≡ true → map raw (sentRaw a b t) ≡ inputsOf (partOf a b t)
 unfolding sentRaw sentOk escaped
@@ -75,23 +75,42 @@ sent-meets o f control b t = refl
 sent-meets o f ending b t = refl
 
 -- One action, written by the rules and read by a client's link.
-pub action-heard : (o : List Transfer) (f : Frame) (a : Sent) (b t : List ℕ) (i : List Input) → leb (length t) stringLimit ≡ true → sentOk a b t ≡ true → mayAct o a ≡ true
-    → Action-heard o f a b t i (tells (live (inside o) f) (map raw (sentRaw a b t) ++ i))
-unfolding says
-action-heard o f a b t i l h m =
-    let p = partOf a b t in
-    let q = behind (inputsOf p) in
-    let n = openAfter o p in
-    let step : says (holds f) (signOf o p ∷ signs (inside n) i) ≡ report (telling o a b t) ∷ tells (live (inside n) (cond (endsCall a) idleFrame f)) i =
-    ap (λ (s : Sign). says (holds f) (s ∷ signs (inside n) i)) (sent-sign o a b t h m)
-    ∙ ap (λ (e : Met). report (e .report) ∷ says (e .next) (signs (inside n) i)) (sent-meets o f a b t)
-    ∙ ap (λ (w : List Told). report (telling o a b t) ∷ w) (sym (layers-told (inside n) (holds (cond (endsCall a) idleFrame f)) i)) in
-    record {
-      told-is =
-          ap (λ (s : List Input). tells (live (inside o) f) (s ++ i)) (sent-raw a b t h)
-          ∙ layers-told (inside o) (holds f) (inputsOf p ++ i)
-          ∙ ap (says (holds f)) (part-signs o p i (sent-good o a b t l h m))
-          ∙ underway-said f q (signOf o p ∷ signs (inside n) i)
-          ∙ ap (λ (w : List Told). fill (report needMore) q ++ w) step
-          ∙ ap (λ (s : List Input). fill (report needMore) (behind s) ++ (report (telling o a b t) ∷ tells (live (inside n) (cond (endsCall a) idleFrame f)) i)) (sym (sent-raw a b t h));
-    }
+module _ (o : List Transfer) (f : Frame) (a : Sent) (b t : List ℕ) (l : leb (length t) stringLimit ≡ true) (h : sentOk a b t ≡ true) (m : mayAct o a ≡ true) where
+  one-good : allGood o (partOf a b t ∷ []) ≡ true
+  unfolding allGood
+  one-good = rw (sent-good o a b t l h m) refl
+
+  one-left : linkAfter (live (inside o) f) (inputsOf (partOf a b t)) ≡ linkBehind o f a b t
+  unfolding inputs openIn signsOf standsAfter
+  one-left =
+      let p = partOf a b t in
+      let n = openAfter o p in
+      ap (linkAfter (live (inside o) f)) (sym (append-nil (inputsOf p)))
+      ∙ parts-left o (holds f) (p ∷ []) one-good
+      ∙ ap (λ (s : Sign). linkAt (inside n) (standsAfter (holds f) (s ∷ []))) (sent-sign o a b t h m)
+      ∙ ap (λ (e : Met). linkAt (inside n) (e .next)) (sent-meets o f a b t)
+
+  pub action-heard : (i : List Input)
+      → Action-heard o f a b t i (tells (live (inside o) f) (map raw (sentRaw a b t) ++ i)) (linkAfter (live (inside o) f) (map raw (sentRaw a b t) ++ i))
+  unfolding says
+  action-heard i =
+      let p = partOf a b t in
+      let q = behind (inputsOf p) in
+      let n = openAfter o p in
+      let step : says (holds f) (signOf o p ∷ signs (inside n) i) ≡ report (telling o a b t) ∷ tells (linkBehind o f a b t) i =
+      ap (λ (s : Sign). says (holds f) (s ∷ signs (inside n) i)) (sent-sign o a b t h m)
+      ∙ ap (λ (e : Met). report (e .report) ∷ says (e .next) (signs (inside n) i)) (sent-meets o f a b t)
+      ∙ ap (λ (w : List Told). report (telling o a b t) ∷ w) (sym (layers-told (inside n) (holds (cond (endsCall a) idleFrame f)) i)) in
+      record {
+        told-is =
+            ap (λ (s : List Input). tells (live (inside o) f) (s ++ i)) (sent-raw a b t h)
+            ∙ layers-told (inside o) (holds f) (inputsOf p ++ i)
+            ∙ ap (says (holds f)) (part-signs o p i (sent-good o a b t l h m))
+            ∙ underway-said f q (signOf o p ∷ signs (inside n) i)
+            ∙ ap (λ (w : List Told). fill (report needMore) q ++ w) step
+            ∙ ap (λ (s : List Input). fill (report needMore) (behind s) ++ (report (telling o a b t) ∷ tells (linkBehind o f a b t) i)) (sym (sent-raw a b t h));
+        left =
+            ap (λ (s : List Input). linkAfter (live (inside o) f) (s ++ i)) (sent-raw a b t h)
+            ∙ left-append (live (inside o) f) (inputsOf p) i
+            ∙ ap (λ (v : Link). linkAfter v i) one-left;
+      }

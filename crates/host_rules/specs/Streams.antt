@@ -10,7 +10,7 @@ use Rattle.serial_rules.specs.Call.{stringLimit}
 use Rattle.serial_rules.specs.Link as link
 use Rattle.serial_rules.specs.Link.{Transfer, load, save, Report, needMore, character, reply, loaded, ended, refusal, failure, place, mayStart}
 use Rattle.serial_rules.specs.Session as session
-use Rattle.serial_rules.specs.Session.{Input, Told, report, answer, tells, Part, byte, someOpen, takesData, openAfter, fill, behind, spread, inside}
+use Rattle.serial_rules.specs.Session.{Input, Told, report, answer, tells, linkAfter, Part, byte, someOpen, takesData, openAfter, fill, behind, spread, inside}
 use Rattle.host_rules.specs.Actions.{Sent, failing, restarting, escapeState, event, address, control, ending, sentRaw, sentOk, partOf}
 
 -- What a host sends, one behind the other: a data byte of the reply, a byte of load data, an action with its block and its text. So nothing stands
@@ -162,10 +162,13 @@ toldIn n (answer a ∷ l) = toldIn n l
 
 -- One action, whatever waits (f) and whatever transfers are open (o), and whatever follows: need-more until its last byte, which tells it; what waits and
 -- the reply so far stay as they were, but for an error or restart, which ends the call.
-pub record Action-heard (o : List Transfer) (f : link.Frame) (a : Sent) (b t : List ℕ) (i : List Input) (told : List Told) : Type 0 where
+abbrev pub linkBehind : List Transfer → link.Frame → Sent → List ℕ → List ℕ → link.Link
+linkBehind o f a b t = link.live (inside (openAfter o (partOf a b t))) (cond (endsCall a) link.idleFrame f)
+
+pub record Action-heard (o : List Transfer) (f : link.Frame) (a : Sent) (b t : List ℕ) (i : List Input) (told : List Told) (end : link.Link) : Type 0 where
   pub told-is : told
-      ≡ fill (report needMore) (behind (map session.raw (sentRaw a b t)))
-      ++ (report (telling o a b t) ∷ tells (link.live (inside (openAfter o (partOf a b t))) (cond (endsCall a) link.idleFrame f)) i)
+      ≡ fill (report needMore) (behind (map session.raw (sentRaw a b t))) ++ (report (telling o a b t) ∷ tells (linkBehind o f a b t) i)
+  pub left : end ≡ linkAfter (linkBehind o f a b t) i
 
 -- "A fresh stepwise reader with the call begun then gives the same actions and load data and, unless one was an error or restart, the same reply": what is
 -- told of the items' raw bytes, the whole of it and by its sorts; no byte is refused, and the link is left as a fresh one.

@@ -101,16 +101,22 @@ sends-sendable (sent.cuts {is = is} bytes s) = bytes-sendable replying (λ b. re
 -- One action, as the writer left it, read at any place between the parts of a stream.
 pub action-read : {l q : Link} {reply own reply-end own-end left : List ℕ} {r : Written} {told : List Told} (o : List link.Transfer) (f : link.Frame) (action : Sent) (b t out : List ℕ) (i : List Input)
     → Action-written action b t out r left → number r ≡ 0 → mayAct o (sentFor action) ≡ true → viewOf l reply own ≡ link.live (inside o) f
-    → Sessions l reply own (map raw (wrote r left) ++ i) told q reply-end own-end → Action-heard o f (sentFor action) b t i told
+    → Sessions l reply own (map raw (wrote r left) ++ i) told q reply-end own-end → Action-heard o f (sentFor action) b t i told (viewOf q reply-end own-end)
 action-read {left = left} {r = r} o f action b t out i d e may at s =
     let k = taken (sentFor action) b t (length out) (sym (d .answer) ∙ e) in
-    let h = action-heard o f (sentFor action) b t i (k .0) (k .1) may in
+    let h = action-heard o f (sentFor action) b t (k .0) (k .1) may i in
+    let u = as-ruled s in
     record {
       told-is =
-          as-ruled s .told-is
+          u .told-is
           ∙ ap (λ (v : link.Link). tells v (map raw (wrote r left) ++ i)) at
           ∙ ap (λ (w : List ℕ). tells (link.live (inside o) f) (map raw w ++ i)) (wrote-is d e)
           ∙ h .told-is;
+      left =
+          u .left
+          ∙ ap (λ (v : link.Link). linkAfter v (map raw (wrote r left) ++ i)) at
+          ∙ ap (λ (w : List ℕ). linkAfter (link.live (inside o) f) (map raw w ++ i)) (wrote-is d e)
+          ∙ h .left;
     }
 
 -- A host wrote a reply of a call's kind, cut it, and sent it with actions and load data in it by the rules; the client's link, begun with its call, reads all of
