@@ -9,14 +9,14 @@ use lib.ListN.{length}
 use Rattle.serial_rules.specs.Escape.{escaped}
 use Rattle.serial_rules.specs.Marks.{inwardClass}
 use Rattle.serial_rules.specs.Call.{stringLimit}
-use Rattle.serial_rules.specs.Link.{Transfer, setting, executing, opening, load, save, place, needMore, acted, failed, Frame, idleFrame, Standing, holds, Met, met, meets, Link, live, linkAt}
+use Rattle.serial_rules.specs.Link.{Transfer, setting, executing, opening, load, save, place, needMore, acted, failed, closes, Frame, idleFrame, Standing, holds, Met, met, meets, Link, live, linkAt}
 use Rattle.serial_rules.specs.Session.{Input, raw, Told, report, tells, linkAfter, Sign, token, signs, says, standsAfter, hasZero, someOpen, openAfter, openIn, good, allGood, inputsOf, inputs, signOf, signsOf, fill, behind, inside}
 use Rattle.serial_rules.proofs.Trip.{and-both}
 use Rattle.serial_rules.proofs.Session.{layers-told}
 use Rattle.serial_rules.proofs.Parts.{part-signs}
 use Rattle.serial_rules.proofs.Actions.{underway-said, parts-left, left-append}
 use Rattle.host_rules.specs.Actions.{Sent, failing, restarting, escapeState, event, address, control, ending, blockFits, hasText, sentRaw, sentOk, partOf}
-use Rattle.host_rules.specs.Streams.{mayAct, telling, endsCall, linkBehind, Action-heard}
+use Rattle.host_rules.specs.Streams.{mayAct, closing, telling, endsCall, linkBehind, Action-heard}
 
 pub sent-raw : (a : Sent) (b t : List ℕ) → sentOk a b t ≡ true → map raw (sentRaw a b t) ≡ inputsOf (partOf a b t)
 unfolding sentRaw sentOk escaped
@@ -61,6 +61,12 @@ sent-sign o control [] t h m = absurd (true≢false (sym h))
 sent-sign o control (x ∷ s) t h m = refl
 sent-sign [] ending b t h m = absurd (true≢false (sym m))
 sent-sign (g ∷ o) ending b t h m = refl
+
+-- an end is told as the link tells it, with none open too
+pub end-told : (o : List Transfer) (f : Frame) → meets f (closes o .token) .report ≡ closing o
+unfolding meets
+end-told [] f = refl
+end-told (g ∷ o) f = refl
 
 -- what an action does to what waits
 pub sent-meets : (o : List Transfer) (f : Frame) (a : Sent) (b t : List ℕ)

@@ -67,6 +67,17 @@ actionCases =
     ∷ refused ending (0x00 ∷ []) [] 0 9
     ∷ refused (failing 1) [] (0x61 ∷ 0x00 ∷ 0x62 ∷ []) 259 9
     ∷ refused ending [] (0x61 ∷ []) 2 9
+    -- the other actions with a text and with a block
+    ∷ refused restarting [] (0x61 ∷ []) 9 9
+    ∷ refused (escapeState true) [] (0x61 ∷ []) 9 9
+    ∷ refused (event 1 2 3) [] (0x61 ∷ []) 9 9
+    ∷ refused (address setting 1 2 3 4) [] (0x61 ∷ []) 9 9
+    ∷ refused control (0x55 ∷ []) (0x61 ∷ []) 9 9
+    ∷ refused (failing 1) (0x55 ∷ []) [] 9 9
+    ∷ refused restarting (0x55 ∷ []) [] 9 9
+    ∷ refused (escapeState true) (0x55 ∷ []) [] 9 9
+    ∷ refused (event 1 2 3) (0x55 ∷ []) [] 9 9
+    ∷ refused (address setting 1 2 3 4) (0x55 ∷ []) [] 9 9
     -- 6 before 9, whatever the action and whatever is in the text
     ∷ refused (failing 1) [] (replicate 256 0x78) 600 6
     ∷ refused (failing 1) [] (replicate 256 0x00) 600 6
