@@ -12,15 +12,15 @@ use Rattle.serial_rules.specs.Body.{more, done}
 use Rattle.serial_rules.specs.Reply.{Kind, Shape, shapeOf, shapeTurn}
 use Rattle.serial_rules.specs.Link as link
 use Rattle.serial_rules.specs.Link.{Transfer, load, save, Report, needMore, character, reply, loaded, Token, datum, acted, failed, Frame, frame, idleFrame, waiting, halted, holds, Met, met, replyTurned, meets, live, linkAt, fresh}
-use Rattle.serial_rules.specs.Session.{Input, Told, report, tells, linkAfter, Sign, token, says, standsAfter, Part, openAfter, openIn, good, allGood, inputsOf, inputs, signOf, signsOf, fill, behind, spread, inside, between}
+use Rattle.serial_rules.specs.Session.{Input, raw, Told, report, tells, linkAfter, Sign, token, says, standsAfter, Part, openAfter, openIn, good, allGood, inputsOf, inputs, signOf, signsOf, fill, behind, spread, inside, between}
 use Rattle.serial_rules.proofs.Trip.{and-both, or-false}
 use Rattle.serial_rules.proofs.Session.{layers-told}
 use Rattle.serial_rules.proofs.Parts.{length-snoc}
 use Rattle.serial_rules.proofs.Ends.{Ends, last, next}
 use Rattle.serial_rules.proofs.Actions.{parts-said, parts-left}
 use Rattle.host_rules.specs.Actions.{Sent, failing, restarting, escapeState, event, address, control, ending, sentOk, partOf}
-use Rattle.host_rules.specs.Streams.{Item, replying, loading, acting, partFor, sendable, allSendable, mayAct, mayStand, stands, replies, closes, replyIn, telling, sentIn, endsCall, failsIn, behindError, replyTold, hears, sortOf, toldIn, Heard}
-use Rattle.host_rules.proofs.Actions.{sent-good, sent-sign, sent-meets}
+use Rattle.host_rules.specs.Streams.{Item, replying, loading, acting, partFor, itemRaw, rawOf, sendable, allSendable, mayAct, mayStand, stands, replies, closes, replyIn, telling, sentIn, endsCall, failsIn, behindError, replyTold, hears, sortOf, toldIn, Heard}
+use Rattle.host_rules.proofs.Actions.{sent-raw, sent-good, sent-sign, sent-meets}
 
 -- a reply byte that is the last, and one that is not
 ends-last : {shape : Shape} {n b : ℕ} → Ends shape n (b ∷ []) → shapeTurn shape n b ≡ done
@@ -130,6 +130,25 @@ items-heard f w s o (acting a b t ∷ j ∷ is) st c ok r =
     let q = sent-meets o f a b t in
     let h = items-heard (cond (endsCall a) idleFrame f) (not (endsCall a) && w) s m (j ∷ is) (p .1) c (k .1) (acted-ready a r) in
     record { told = step-told f e q h; left = step-left f e q h }
+
+-- the raw bytes of items are those of their parts
+pub raws-append : (s t : List ℕ) → map raw (s ++ t) ≡ map raw s ++ map raw t
+raws-append [] t = refl
+raws-append (x ∷ s) t = ap (λ (l : List Input). raw x ∷ l) (raws-append s t)
+
+item-raw : (i : Item) → sendable i ≡ true → map raw (itemRaw i) ≡ inputsOf (partFor i)
+item-raw (replying b) k = refl
+item-raw (loading b) k = refl
+item-raw (acting a b t) k = sent-raw a b t (and-both (leb (length t) stringLimit) (sentOk a b t) k .1)
+
+items-raw : (is : List Item) → allSendable is ≡ true → map raw (rawOf is) ≡ inputs (map partFor is)
+unfolding rawOf allSendable inputs
+items-raw [] ok = refl
+items-raw (i ∷ is) ok =
+    let k = and-both (sendable i) (allSendable is) ok in
+    raws-append (itemRaw i) (rawOf is)
+    ∙ ap (λ (l : List Input). l ++ map raw (rawOf is)) (item-raw i (k .0))
+    ∙ ap (λ (l : List Input). inputsOf (partFor i) ++ l) (items-raw is (k .1))
 
 -- the parts of such a stream are good, and none is open behind it
 item-good : (o : List Transfer) (i : Item) → mayStand o i ≡ true → sendable i ≡ true → good o (partFor i) ≡ true
@@ -289,7 +308,7 @@ failed-told s o (acting a b t ∷ j ∷ is) st c z =
 
 -- The theorem: whatever a host puts into a reply by these rules, the link of a client gives back.
 pub host-heard : (k : Kind) (is : List Item) → stands [] is ≡ true → closes is ≡ true → allSendable is ≡ true → Ends (shapeOf k) 0 (replyIn is)
-    → Heard is (tells (live between (frame (waiting k) [])) (inputs (map partFor is))) (linkAfter (live between (frame (waiting k) [])) (inputs (map partFor is)))
+    → Heard is (tells (live between (frame (waiting k) [])) (map raw (rawOf is))) (linkAfter (live between (frame (waiting k) [])) (map raw (rawOf is)))
 host-heard k is st c ok d =
     let f = frame (waiting k) [] in
     let s = replyIn is in
@@ -297,12 +316,13 @@ host-heard k is st c ok d =
     let g = items-good [] is st ok in
     let h = items-heard f true s [] is st c ok (waits k 0 [] s s refl refl d) in
     let on : standsAfter (holds f) (signsOf [] ps) ≡ halted → ⊥ = λ e. let u = sym (h .left) ∙ e in let z : _≡_ {A = ℕ} 0 1 = cc in omega arith in
-    let told : tells (live between f) (inputs ps) ≡ spread ps (hears true s [] is) = layers-told between (holds f) (inputs ps) ∙ parts-said [] (holds f) ps g on ∙ ap (spread ps) (h .told) in
-    let of : (n : ℕ) → eqb 0 n ≡ false → toldIn n (tells (live between f) (inputs ps)) ≡ toldIn n (hears true s [] is) = λ n z. ap (toldIn n) told ∙ spread-sort n true s [] is z in
+    let bytes = items-raw is ok in
+    let told : tells (live between f) (map raw (rawOf is)) ≡ spread ps (hears true s [] is) = ap (tells (live between f)) bytes ∙ layers-told between (holds f) (inputs ps) ∙ parts-said [] (holds f) ps g on ∙ ap (spread ps) (h .told) in
+    let of : (n : ℕ) → eqb 0 n ≡ false → toldIn n (tells (live between f) (map raw (rawOf is))) ≡ toldIn n (hears true s [] is) = λ n z. ap (toldIn n) told ∙ spread-sort n true s [] is z in
     record {
       told-is = told;
       given = of 1 refl ∙ acts-told true s [] is st;
       replied = λ z. of 2 refl ∙ reply-told s [] is st c z;
       failed = λ z. of 2 refl ∙ failed-told s [] is st c z;
-      left = parts-left [] (holds f) ps g ∙ ap (λ (o : List Transfer). linkAt (inside o) (standsAfter (holds f) (signsOf [] ps))) (items-closed [] is st c) ∙ ap (linkAt between) (h .left);
+      left = ap (linkAfter (live between f)) bytes ∙ parts-left [] (holds f) ps g ∙ ap (λ (o : List Transfer). linkAt (inside o) (standsAfter (holds f) (signsOf [] ps))) (items-closed [] is st c) ∙ ap (linkAt between) (h .left);
     }

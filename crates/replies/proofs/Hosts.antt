@@ -10,15 +10,15 @@ use Rattle.serial_rules.specs.Escape.{escaped}
 use Rattle.serial_rules.specs.Call.{stringLimit, serial}
 use Rattle.serial_rules.specs.Reply as rules
 use Rattle.serial_rules.specs.Link as link
-use Rattle.serial_rules.specs.Session.{Input, raw, Told, report, tells, linkAfter, byte, openAfter, inputsOf, inputs, inside, between}
+use Rattle.serial_rules.specs.Session.{Input, raw, Told, report, tells, linkAfter, inside, between}
 use Rattle.serial_rules.proofs.Escape.{escaped-append}
 use Rattle.serial_rules.proofs.Ends.{Ends}
 use Rattle.serial_rules.proofs.Replies.{reply-whole, reply-none, reply-back, written-then-read}
 use Rattle.host_rules.specs.Actions as host
-use Rattle.host_rules.specs.Actions.{sentRaw, sentOk, sentNumber, partOf}
-use Rattle.host_rules.specs.Streams.{Item, replying, loading, acting, partFor, sendable, allSendable, mayAct, stands, closes, replyIn, Action-heard, Heard}
-use Rattle.host_rules.proofs.Actions.{sent-raw, action-heard}
-use Rattle.host_rules.proofs.Streams.{reply-some, host-heard}
+use Rattle.host_rules.specs.Actions.{sentRaw, sentOk, sentNumber}
+use Rattle.host_rules.specs.Streams.{Item, replying, loading, acting, itemRaw, rawOf, sendable, allSendable, mayAct, stands, closes, replyIn, Action-heard, Heard}
+use Rattle.host_rules.proofs.Actions.{action-heard}
+use Rattle.host_rules.proofs.Streams.{raws-append, reply-some, host-heard}
 use Rattle.fields.specs.declared.Written.{Written}
 use Rattle.fields.specs.Promise.{number}
 use Rattle.fields.proofs.Wrote.{wrote, wrote-is, checks}
@@ -47,47 +47,31 @@ taken a b t room e =
     let x = checks (ltb stringLimit (length t)) (sentOk a b t) (ltb room (length (sentRaw a b t))) e in
     (le-leb _ _ (ltb-false stringLimit (length t) (x .0)), x .1)
 
-raws-append : (s t : List ℕ) → map raw (s ++ t) ≡ map raw s ++ map raw t
-raws-append [] t = refl
-raws-append (x ∷ s) t = ap (λ (l : List Input). raw x ∷ l) (raws-append s t)
-
 -- data bytes one by one, of the reply or of a load
-module _ (item : ℕ → Item) (is-byte : (b : ℕ) → partFor (item b) ≡ byte b) (is-sendable : (b : ℕ) → sendable (item b) ≡ true) where
-  bytes-inputs : (bytes : List ℕ) (is : List Item) → inputs (map partFor (map item bytes ++ is)) ≡ map raw (escaped bytes) ++ inputs (map partFor is)
-  unfolding inputs escaped
-  bytes-inputs [] is = refl
-  bytes-inputs (b ∷ bytes) is =
-      let l = inputs (map partFor is) in
-      rw (is-byte b)
-      (ap (λ (m : List Input). map raw (escaped (b ∷ [])) ++ m) (bytes-inputs bytes is)
-      ∙ sym (append-assoc (map raw (escaped (b ∷ []))) (map raw (escaped bytes)) l)
-      ∙ ap (λ (m : List Input). m ++ l) (sym (raws-append (escaped (b ∷ [])) (escaped bytes)))
-      ∙ ap (λ (m : List ℕ). map raw m ++ l) (sym (escaped-append (b ∷ []) bytes)))
+module _ (item : ℕ → Item) (is-raw : (b : ℕ) → itemRaw (item b) ≡ escaped (b ∷ [])) (is-sendable : (b : ℕ) → sendable (item b) ≡ true) where
+  bytes-raw : (bytes : List ℕ) (is : List Item) → rawOf (map item bytes ++ is) ≡ escaped bytes ++ rawOf is
+  unfolding rawOf escaped
+  bytes-raw [] is = refl
+  bytes-raw (b ∷ bytes) is =
+      rw (is-raw b)
+      (ap (λ (l : List ℕ). escaped (b ∷ []) ++ l) (bytes-raw bytes is)
+      ∙ sym (append-assoc (escaped (b ∷ [])) (escaped bytes) (rawOf is))
+      ∙ ap (λ (l : List ℕ). l ++ rawOf is) (sym (escaped-append (b ∷ []) bytes)))
 
   bytes-sendable : (bytes : List ℕ) (is : List Item) → allSendable is ≡ true → allSendable (map item bytes ++ is) ≡ true
   unfolding allSendable
   bytes-sendable [] is h = h
   bytes-sendable (b ∷ bytes) is h = rw (is-sendable b) (bytes-sendable bytes is h)
 
--- the raw bytes that were sent are those of the items
-sends-inputs : {is : List Item} {raws : List ℕ} → Sends is raws → map raw raws ≡ inputs (map partFor is)
-unfolding inputs
-sends-inputs sent.stop = refl
-sends-inputs (sent.acts {out = out} {left = left} {raw = raws} {r = r} action b t d e s) =
-    let k = taken (sentFor action) b t (length out) (sym (d .answer) ∙ e) in
-    raws-append (wrote r left) raws
-    ∙ ap (λ (l : List ℕ). map raw l ++ map raw raws) (wrote-is d e)
-    ∙ ap (λ (l : List Input). l ++ map raw raws) (sent-raw (sentFor action) b t (k .1))
-    ∙ ap (λ (l : List Input). inputsOf (partOf (sentFor action) b t) ++ l) (sends-inputs s)
-sends-inputs (sent.loads {left = left} {raw = raws} {r = r} {is = is} bytes d e s) =
-    raws-append (wrote r left) raws
-    ∙ ap (λ (l : List ℕ). map raw l ++ map raw raws) (wrote-is d e)
-    ∙ ap (λ (l : List Input). map raw (escaped bytes) ++ l) (sends-inputs s)
-    ∙ sym (bytes-inputs loading (λ b. refl) (λ b. refl) bytes is)
-sends-inputs (sent.cuts {raw = raws} {is = is} bytes s) =
-    raws-append (escaped bytes) raws
-    ∙ ap (λ (l : List Input). map raw (escaped bytes) ++ l) (sends-inputs s)
-    ∙ sym (bytes-inputs replying (λ b. refl) (λ b. refl) bytes is)
+-- what was sent are the raw bytes of the items, and each action is one that the rules take
+sends-raw : {is : List Item} {raws : List ℕ} → Sends is raws → raws ≡ rawOf is
+unfolding rawOf
+sends-raw sent.stop = refl
+sends-raw (sent.acts {left = left} {raw = raws} {r = r} action b t d e s) =
+    ap (λ (l : List ℕ). l ++ raws) (wrote-is d e) ∙ ap (λ (l : List ℕ). sentRaw (sentFor action) b t ++ l) (sends-raw s)
+sends-raw (sent.loads {left = left} {raw = raws} {r = r} {is = is} bytes d e s) =
+    ap (λ (l : List ℕ). l ++ raws) (wrote-is d e) ∙ ap (λ (l : List ℕ). escaped bytes ++ l) (sends-raw s) ∙ sym (bytes-raw loading (λ b. refl) (λ b. refl) bytes is)
+sends-raw (sent.cuts {is = is} bytes s) = ap (λ (l : List ℕ). escaped bytes ++ l) (sends-raw s) ∙ sym (bytes-raw replying (λ b. refl) (λ b. refl) bytes is)
 
 sends-sendable : {is : List Item} {raws : List ℕ} → Sends is raws → allSendable is ≡ true
 unfolding allSendable
@@ -146,8 +130,8 @@ served {left = left} {lent = lent} {own = own} {raws = raws} {r = r} kind kind�
     let at = begin .next lent own ∙ ap (λ (x : link.Start). x .next) waiting in
     let v = link.live between (link.frame (link.waiting k) []) in
     let u = as-ruled session in
-    let told-is = u .told-is ∙ ap (λ (x : link.Link). tells x (map raw raws)) at ∙ ap (tells v) (sends-inputs s) in
-    let end-is = u .left ∙ ap (λ (x : link.Link). linkAfter x (map raw raws)) at ∙ ap (linkAfter v) (sends-inputs s) in
+    let told-is = u .told-is ∙ ap (λ (x : link.Link). tells x (map raw raws)) at ∙ ap (λ (l : List ℕ). tells v (map raw l)) (sends-raw s) in
+    let end-is = u .left ∙ ap (λ (x : link.Link). linkAfter x (map raw raws)) at ∙ ap (λ (l : List ℕ). linkAfter v (map raw l)) (sends-raw s) in
     record {
       waits = begin .answer lent own ∙ ap (λ (x : link.Start). x .answer) waiting;
       cut = ap escaped whole ∙ sym (wrote-is d e);
