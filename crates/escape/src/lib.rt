@@ -66,7 +66,7 @@ pub fn unit_at(raw: &[u8], i: usize) -> Unit
 }
 
 // The bytes of a piece that are counted in one byte.
-const PIECE: usize = 128;
+const PIECE: usize = 224;
 
 // How many of the bytes are escape bytes: by pieces, so that many bytes are counted at once.
 pub fn count_escapes(bytes: &[u8]) -> usize
@@ -82,7 +82,7 @@ pub fn count_escapes(bytes: &[u8]) -> usize
 }
 
 fn count_piece(bytes: &[u8]) -> u8
-    requires { ⌜ length (now bytes) ≤ 128 ⌝ }
+    requires { ⌜ length (now bytes) ≤ 224 ⌝ }
     ensures { λ r. ⌜ (r ≡ escapes (now (bytes .entry))) × (r ≤ length (now (bytes .entry))) ⌝ }
 {
     let mut n: u8 = 0;

@@ -31,7 +31,7 @@ loop-again c =
     let t = c .before .before in
     let l = t .before in
     let i = l .loop .i in
-    let e = escapes-piece (now (l .before .before .args .bytes)) i (i + 128) (omega arith) in
+    let e = escapes-piece (now (l .before .before .args .bytes)) i (i + 224) (omega arith) in
     let h = simp length-take at (c .count-piece .ensures .1) in
     (omega (arith, t .loop-test .taken, l .loop .inv .0), omega (arith, h, l .loop .inv .1), omega (arith, e, c .count-piece .ensures .0, l .loop .inv .2))
 
