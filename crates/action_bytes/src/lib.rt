@@ -1,4 +1,5 @@
 // An action of a recording, the raw bytes that came behind one call: its mark and the bytes of its own.
+#![tactic(auto)]
 ghost use Rattle.std.specs.Prelude.{◌≤◌, ◌<◌, min, ◌≡◌, length};
 ghost use Rattle.serial_rules.specs.Link.{own_most, starts, meaning_of};
 ghost use Rattle.actions.specs.Actions.{action_for, meaning_for};
@@ -12,7 +13,7 @@ use link::Link;
 use turns::Turn;
 
 // An action's own bytes: how many there are before the last one, and the place behind it; or the answer that ended them.
-#[derive(Drop)]
+#[derive(Clone, Copy)]
 enum Owned {
     Whole(u16, usize),
     Halt(Answer, usize),
@@ -20,7 +21,7 @@ enum Owned {
 
 // An action but for the body of a transfer, with the place behind it: an answer that ends the call, one that is passed over, or that of a load or
 // save.
-#[derive(Drop)]
+#[derive(Clone, Copy)]
 pub enum Began {
     Halt(Answer, usize),
     Told(Answer, usize),

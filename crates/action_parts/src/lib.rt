@@ -1,4 +1,5 @@
 // The actions that a host sends inward, what each is made of, and whether its block and its text keep their rules.
+#![tactic(auto)]
 ghost use Rattle.std.specs.Prelude.{◌≡◌};
 ghost use Rattle.host_rules.specs.Actions.{target_sent, state_sent};
 ghost use Rattle.actions.specs.Actions.{target_for};
@@ -7,7 +8,7 @@ ghost use Rattle.action_parts.specs.Parts.{sent_for, parts_with, parts_of, parts
 use actions::Target;
 
 // An action; the bytes of a control block and the text of an error are given beside it.
-#[derive(Drop)]
+#[derive(Clone, Copy)]
 pub enum Sent {
     Error(u8),
     Restart,
@@ -30,7 +31,7 @@ pub enum Sent {
 
 // What an action is made of: its mark, whether it has a block or a text, the first `before` of `head`, which stand before these, and how many bytes end
 // its text.
-#[derive(Drop)]
+#[derive(Clone, Copy)]
 pub struct Parts {
     pub mark: u8,
     pub block: bool,

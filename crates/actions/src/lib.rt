@@ -1,4 +1,5 @@
 // What the marks of the inward stream mean, and how the bytes that an action has of its own end.
+#![tactic(auto)]
 ghost use Rattle.std.specs.Prelude.{◌≤◌, ◌≡◌};
 ghost use Rattle.serial_rules.specs.Link.{control, own_shape, own_most, meaning_of, may_start};
 ghost use Rattle.serial_rules.specs.Nest.{nest_of};
@@ -8,7 +9,7 @@ ghost use Rattle.actions.specs.Actions.{action_for, meaning_for, opens_transfer}
 use shapes::Shape;
 
 // What four address bytes are for.
-#[derive(Drop)]
+#[derive(Clone, Copy)]
 pub enum Target {
     Set,
     Execute,
@@ -17,7 +18,7 @@ pub enum Target {
 }
 
 // The actions that have bytes of their own.
-#[derive(Drop)]
+#[derive(Clone, Copy)]
 pub enum Action {
     Error,
     Event,
@@ -26,7 +27,7 @@ pub enum Action {
 }
 
 // What a mark is, outside an action's own bytes: not carried; the Escape state; the end of a transfer; or the start of an action.
-#[derive(Drop)]
+#[derive(Clone, Copy)]
 pub enum Meaning {
     Unknown,
     State(bool),

@@ -1,4 +1,5 @@
 // What a link tells of a raw byte, and what an action tells when it has all its bytes.
+#![tactic(auto)]
 ghost use Rattle.std.specs.Prelude.{◌-◌, ◌≡◌};
 ghost use Rattle.answers.specs.Reports.{ends_of, failure_for, told_by};
 
@@ -7,7 +8,7 @@ use actions::{Action, Target};
 // What a raw byte gives: more is needed; a character; a finished reply, the first bytes of the lent reply; the Escape state; an event; an
 // address and what it is for, high byte first; a control block, the first bytes of the other lent bytes; a byte of load data; the end of a
 // load or save; an error, whose text stands in the other lent bytes from the second on; a restart; or a refusal by document 01's number.
-#[derive(Drop)]
+#[derive(Clone, Copy)]
 pub enum Answer {
     More,
     Character(u8),

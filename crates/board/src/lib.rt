@@ -1,4 +1,5 @@
 // The chip for callers in C and Rust: one access entry that is lent the record, the rest by value. Answers are numbers.
+#![tactic(auto)]
 ghost use Rattle.std.specs.Prelude.{◌≡◌};
 ghost use Rattle.chip_rules.specs.History.{line_value};
 ghost use Rattle.chip.specs.Record.{view, blank};
@@ -9,14 +10,14 @@ use chip::Chip;
 
 // Document 01's number of the answer, and the byte.
 #[repr(C)]
-#[derive(Drop)]
+#[derive(Clone, Copy)]
 pub struct Reply {
     pub answer: u8,
     pub byte: u8,
 }
 
 // The chip stands last.
-#[derive(Drop)]
+#[derive(Clone, Copy)]
 pub struct Stepped {
     pub reply: Reply,
     pub chip: Chip,

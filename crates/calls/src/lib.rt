@@ -1,4 +1,5 @@
 // The calls that a client sends, and what the request table says of each.
+#![tactic(auto)]
 ghost use Rattle.std.specs.Prelude.{◌≡◌, ◌&&◌};
 ghost use Rattle.serial_rules.specs.Call.{style_ok};
 ghost use Rattle.carrier.specs.Carriers.{carrier_of};
@@ -9,7 +10,7 @@ use carrier::Carrier;
 use strings::Text;
 
 // A call with its numbers; its block and its string are given beside it.
-#[derive(Drop)]
+#[derive(Clone, Copy)]
 pub enum Call {
     Osrdch,
     Oscli,
@@ -35,7 +36,7 @@ pub fn length_byte(length: usize) -> u8
 
 // What the request table says of a call: its code, whether its numbers keep their rules, how long its block is and whether it has a string;
 // and the numbers of its body, the first `before` of `head` before block and string, the first `behind` of `tail` behind them.
-#[derive(Drop)]
+#[derive(Clone, Copy)]
 pub struct Row {
     pub code: u8,
     pub good: bool,

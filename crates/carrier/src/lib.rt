@@ -1,10 +1,11 @@
 // The two carriers of requests and replies.
+#![tactic(auto)]
 ghost use Rattle.std.specs.Prelude.{◌≡◌};
 ghost use Rattle.serial_rules.specs.Call.{style_ok};
 ghost use Rattle.carrier.specs.Carriers.{carrier_of, carrier_at, carrier_number};
 
 // The serial lead, with the escape layer and marks, or the parallel side, with plain codes and bodies.
-#[derive(Drop)]
+#[derive(Clone, Copy)]
 pub enum Carrier {
     Serial,
     Parallel,

@@ -1,4 +1,5 @@
 // The Tube chip as a record by value: eight channels and six flags.
+#![tactic(auto)]
 ghost use Rattle.std.specs.Prelude.{◌+◌, ◌≤◌, ◌<◌, ◌≡◌, true, cond, ◌&&◌, leb, ltb, eqb};
 ghost use Rattle.chip_rules.specs.State.{held, fed, toward, chan, done, host, R1, R3};
 ghost use Rattle.chip_rules.specs.Rules.{decode, capacity, limit, room, n_flag, ready, status_of, bit, controlled, host_irq, parasite_irq, parasite_nmi, lines, take_oldest, append, on, step};
@@ -13,7 +14,7 @@ ghost use Rattle.chip.specs.Steps.{told, StepDone, Stored, MovedDown, Counted, P
 // behind; the third byte of parasite-to-host R1 and those behind it are in `later`. The flags P V M J I Q are bits 5 to 0 of `flags`; the
 // bits above them stand for nothing. Every value of every word is a chip record.
 #[repr(C)]
-#[derive(Drop)]
+#[derive(Clone, Copy)]
 pub struct Chip {
     pub oldest: u64,
     pub next: u64,
@@ -24,7 +25,7 @@ pub struct Chip {
 
 // The answers to an access: done; a side or offset that does not exist, or a record that holds more than its capacities;
 // a data write without room; a data read of an empty channel.
-#[derive(Drop)]
+#[derive(Clone, Copy)]
 pub enum Answer {
     Done,
     Missing,
@@ -47,14 +48,14 @@ impl Answer {
 }
 
 // The chip stands last.
-#[derive(Drop)]
+#[derive(Clone, Copy)]
 pub struct Accessed {
     pub answer: Answer,
     pub byte: u8,
     pub chip: Chip,
 }
 
-#[derive(Drop)]
+#[derive(Clone, Copy)]
 struct Taken {
     byte: u8,
     chip: Chip,

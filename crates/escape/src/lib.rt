@@ -1,11 +1,12 @@
 // The escape layer of the serial protocol.
+#![tactic(auto)]
 ghost use Rattle.std.specs.Prelude.{◌≤◌, ◌≡◌, ◌||◌, eqb, ltb, length};
 ghost use Rattle.serial_rules.specs.Escape.{escape, piece_of, escapes};
 ghost use Rattle.escape.specs.Layer.{piece_for, is_escape};
 ghost use Rattle.escape.specs.Units.{unit_at, unit_for};
 
 // A raw byte, seen through the escape layer: an escape that needs the next byte, a data byte, or a mark.
-#[derive(Drop)]
+#[derive(Clone, Copy)]
 pub enum Piece {
     Pending,
     Data(u8),
@@ -13,7 +14,7 @@ pub enum Piece {
 }
 
 // One data byte or mark of raw bytes, and the place behind it; or they end before it is whole.
-#[derive(Drop)]
+#[derive(Clone, Copy)]
 pub enum Unit {
     Gone,
     Data(u8, usize),

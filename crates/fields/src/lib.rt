@@ -1,4 +1,5 @@
 // The writer that every encoding is made with: a heading, then four fields of data bytes.
+#![tactic(auto)]
 ghost use Rattle.std.specs.Prelude.{◌≤◌, [], ◌∷◌, ◌++◌, length};
 ghost use Rattle.serial_rules.specs.Escape.{escape, escaped};
 ghost use Rattle.escape.specs.Put.{Put};
@@ -13,7 +14,7 @@ const PIECE: usize = 128;
 const EIGHT: usize = 8;
 
 // The answers of a writer: the length of the encoding written; a string over 255 bytes; a field that breaks its rule; too little room.
-#[derive(Drop)]
+#[derive(Clone, Copy)]
 pub enum Written {
     Done(usize),
     TooLong,

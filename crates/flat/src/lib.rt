@@ -1,4 +1,5 @@
 // What the flat records for callers in C share: a flag kept as a number, what a writer gives, and a name found in a body.
+#![tactic(auto)]
 ghost use Rattle.std.specs.Prelude.{◌≡◌};
 ghost use Rattle.flat.specs.Flat.{flag_number, flat_written, unwritten_with, flat_name};
 
@@ -7,7 +8,7 @@ use strings::Text;
 
 // What a writer gives: the number of its answer, and on 0 the length of the encoding.
 #[repr(C)]
-#[derive(Drop)]
+#[derive(Clone, Copy)]
 pub struct FlatWritten {
     pub length: usize,
     pub answer: u8,
@@ -40,7 +41,7 @@ pub fn unwritten(answer: u8) -> FlatWritten
 
 // A name found in a body: the number of the answer, and on 0 its length.
 #[repr(C)]
-#[derive(Drop)]
+#[derive(Clone, Copy)]
 pub struct FlatName {
     pub length: usize,
     pub answer: u8,

@@ -1,4 +1,5 @@
 // The writer of inward actions with a number for the action and a flat record for its answer, so that it can cross to C.
+#![tactic(auto)]
 ghost use Rattle.std.specs.Prelude.{◌≡◌};
 ghost use Rattle.action_parts.specs.declared.Sent.TheVariants.{Address};
 ghost use Rattle.flat.specs.Flat.{unwritten_with};
@@ -11,7 +12,7 @@ use flat::FlatWritten;
 use strings::Text;
 
 // The action of a number, or that there is none.
-#[derive(Drop)]
+#[derive(Clone, Copy)]
 pub enum Named {
     Action(Sent),
     Nothing,

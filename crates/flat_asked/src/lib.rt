@@ -1,4 +1,5 @@
 // The fields of a request as a flat record: numbers for the call and its own numbers, so that it can cross to C.
+#![tactic(auto)]
 ghost use Rattle.std.specs.Prelude.{◌≡◌};
 ghost use Rattle.flat_asked.specs.Asks.{asked_with, asked_as, FlatAskedDone};
 
@@ -9,7 +10,7 @@ use request::{Asked, RequestRead};
 // A request read: its call by number, as `tube_write_request` numbers them, or no call; its own numbers; and where its block and its string lie
 // in the body. What the call lacks is 0.
 #[repr(C)]
-#[derive(Drop)]
+#[derive(Clone, Copy)]
 pub struct FlatAsked {
     pub block_start: usize,
     pub block_length: usize,

@@ -1,5 +1,6 @@
 // The kinds of call by number, with total conversions, so that they can cross to C. The calls are numbered in the order of
 // `kind::CallKind`, from 0, as `tube_write_request` numbers them.
+#![tactic(auto)]
 ghost use Rattle.std.specs.Prelude.{◌≤◌, ◌≡◌};
 ghost use Rattle.flat_kind.specs.Kinds.{kind_at, kind_number, kind_out, FlatKindDone};
 
@@ -7,7 +8,7 @@ use kind::{CallKind, Found};
 
 // The kind of a call: its number, and OSWORD's out length, else 0; or no call.
 #[repr(C)]
-#[derive(Drop)]
+#[derive(Clone, Copy)]
 pub struct FlatKind {
     pub call: u8,
     pub out_length: u8,

@@ -65,14 +65,14 @@ comes_to_end e z = not_done (sym z ∙ ap turn_of e)
 module _ {f : FlatLink} {x : ℕ} (h : ReplyByte f x) where
   in_range : tags_ok f ≡ true
   unfolding tags_ok
-  in_range = rw (le-leb f.wait 13 h.known, h.quiet, h.no_flags_lem)
+  in_range = rw (le-leb f.wait 13 h.known, h.quiet, h.no_flags)
 
   abbrev kind : CallKind
   kind = kind_at (f.wait - 1) f.out_length
 
   -- its link is one in the middle of a reply
   middle : link_of f ≡ mid_reply kind f.got
-  middle = rw (ne_eqb f.wait 0 (λ e. omega (arith, e, h.waits)), h.quiet, h.none_held, h.no_flags_lem)
+  middle = rw (ne_eqb f.wait 0 (λ e. omega (arith, e, h.waits)), h.quiet, h.none_held, h.no_flags)
 
   -- the link with a byte more has the record with a byte more
   next_is : placed_next f ≡ flat_of f (mid_reply kind (f.got + 1))

@@ -14,7 +14,7 @@ pub record ReplyByte (f : FlatLink) (raw : ℕ) : Type 0 where
   pub known : f.wait ≤ 13
   pub quiet : f.action ≡ 0
   pub none_held : f.held ≡ 0
-  pub no_flags_lem : f.flags ≡ 0
+  pub no_flags : f.flags ≡ 0
   pub not_escape : eqb raw escape ≡ false
 
 -- how the reply that waits ends

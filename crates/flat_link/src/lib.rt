@@ -1,4 +1,5 @@
 // What is done with a link, over its flat record: a call begun, one raw byte, raw bytes in a loop, each with a flat result, so that it can cross to C.
+#![tactic(auto)]
 ghost use Rattle.std.specs.Prelude.{◌<◌, ◌≡◌, true};
 ghost use Rattle.kind.specs.Kinds.{reply_lent};
 ghost use Rattle.link.specs.View.{begun_of};
@@ -23,7 +24,7 @@ use turns::Turn;
 // bytes); 10 execute, 11 a load, 12 a save (first to fourth, as of an address); 13 load data (first); 14 the end of a load (first is 0) or save (1).
 // What is not named is 0. It is three words without padding, so that it can be copied word by word.
 #[repr(C)]
-#[derive(Drop)]
+#[derive(Clone, Copy)]
 pub struct FlatTold {
     pub link: FlatLink,
     pub length: usize,
@@ -36,7 +37,7 @@ pub struct FlatTold {
 
 // What a begun call gives: kind 0 waits, 1 is complete, 2 is refused with the number `answer`, which is else 0.
 #[repr(C)]
-#[derive(Drop)]
+#[derive(Clone, Copy)]
 pub struct FlatBegun {
     pub link: FlatLink,
     pub kind: u8,
@@ -45,7 +46,7 @@ pub struct FlatBegun {
 
 // What the loop over raw bytes gives: where it ended, how many of them it used, how many notes it wrote, and how many bytes of data.
 #[repr(C)]
-#[derive(Drop)]
+#[derive(Clone, Copy)]
 pub struct FlatRan {
     pub told: FlatTold,
     pub used: usize,

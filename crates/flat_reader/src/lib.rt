@@ -1,4 +1,5 @@
 // The request reader as a flat record: numbers for the enums and the bools, with total conversions, so that it can cross to C.
+#![tactic(auto)]
 ghost use Rattle.std.specs.Prelude.{◌≡◌};
 ghost use Rattle.flat_reader.specs.Readers.{phase_at, phase_number, reader_of, flat_of, flat_read, flat_plain, tags_ok};
 
@@ -9,7 +10,7 @@ use request_reader::{Answer, Phase, Reader};
 // escape was seen where its number is not 0. A number out of range makes a reader that counts as stopped. It has eight bytes, the
 // last of them padding, so that it crosses to C in one register.
 #[repr(C)]
-#[derive(Drop)]
+#[derive(Clone, Copy)]
 pub struct FlatReader {
     pub count: u16,
     pub carrier: u8,
@@ -22,7 +23,7 @@ pub struct FlatReader {
 // What a raw byte gives: kind 0 needs more, 1 is a character (value), 2 a request (style, code, its body in the first `length` bytes of
 // the lent body), 3 a refusal (value is its number). It has 16 bytes, so that it comes back in two registers.
 #[repr(C)]
-#[derive(Drop)]
+#[derive(Clone, Copy)]
 pub struct FlatRead {
     pub reader: FlatReader,
     pub length: u32,

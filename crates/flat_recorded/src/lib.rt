@@ -1,4 +1,5 @@
 // The reader of a recorded reply with a number for the call and a flat record for what it gives, so that it can cross to C.
+#![tactic(auto)]
 ghost use Rattle.std.specs.Prelude.{◌≡◌};
 ghost use Rattle.flat_kind.specs.Kinds.{kind_at};
 ghost use Rattle.flat_recorded.specs.Recordings.{recorded_with, flat_recorded, FlatRecordedDone};
@@ -11,7 +12,7 @@ use recorded::Recorded;
 // What a recorded reply gives: the raw bytes used, the notes and the bytes of data; by its kind 0 the recording ran out, 5 is a reply (length), 6 an
 // error (number, and the length of its text), 7 a restart, 8 a refusal (number). What is not named is 0.
 #[repr(C)]
-#[derive(Drop)]
+#[derive(Clone, Copy)]
 pub struct FlatRecorded {
     pub used: usize,
     pub noted: usize,

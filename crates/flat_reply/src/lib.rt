@@ -1,4 +1,5 @@
 // The replies as flat records: numbers for the enums and the bools, with total conversions, so that they can cross to C.
+#![tactic(auto)]
 ghost use Rattle.std.specs.Prelude.{◌≡◌};
 ghost use Rattle.flat_kind.specs.Kinds.{kind_at};
 ghost use Rattle.flat_reply.specs.Replies.{reply_at, numbers_known, flat_given, given_with, flat_taken, FlatReplyDone, FlatReadDone, FlatTakeDone};
@@ -15,7 +16,7 @@ use turns::Turn;
 // A reply read: its number in the order of `reply::Reply`, from 0, its own numbers, and where its block and its string lie in the bytes. What
 // the reply lacks is 0.
 #[repr(C)]
-#[derive(Drop)]
+#[derive(Clone, Copy)]
 pub struct FlatGiven {
     pub block_start: usize,
     pub block_length: usize,
@@ -31,7 +32,7 @@ pub struct FlatGiven {
 // What a byte of a reply does on the parallel side: kind 0 more follow, 1 it is the last, 2 it is refused with the number `answer`, which is else 0;
 // and how many bytes of the reply there are then.
 #[repr(C)]
-#[derive(Drop)]
+#[derive(Clone, Copy)]
 pub struct FlatTaken {
     pub count: u16,
     pub kind: u8,

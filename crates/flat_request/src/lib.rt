@@ -1,4 +1,5 @@
 // The request reader on flat records: made, by the byte and over slices.
+#![tactic(auto)]
 ghost use Rattle.std.specs.Prelude.{◌<◌, ◌≡◌, true};
 ghost use Rattle.request_reader.specs.View.{body_room};
 ghost use Rattle.flat_reader.specs.Readers.{fresh_reader, FlatDone};
@@ -11,7 +12,7 @@ use request_reader::{Answer, Reader};
 
 // What a slice of raw bytes gives: its first answer that is not need-more, or need-more where it ends first, and the bytes used.
 #[repr(C)]
-#[derive(Drop)]
+#[derive(Clone, Copy)]
 pub struct FlatFed {
     pub read: FlatRead,
     pub used: usize,

@@ -1,4 +1,5 @@
 // The exports that write what a host sends beside replies: inward actions and load data. Answers are numbers and records flat.
+#![tactic(auto)]
 ghost use Rattle.flat_action.specs.Actions.{action_at, FlatActionDone, FlatDataDone};
 
 use flat::FlatWritten;

@@ -25,6 +25,7 @@ use Rattle.host_rules.proofs.Actions.{sent_raw_lem, sent_good, sent_sign, sent_m
 -- a reply byte that is the last, and one that is not
 ends_last : {shape : Shape} {n b : ℕ} → Ends shape n (b ∷ []) → shape_turn shape n b ≡ done
 ends_last (last n b d) = d
+ends_last (next _ _ _ _ w) = elim w [ ]
 
 ends_next : {shape : Shape} {n b : ℕ} {s : List ℕ} → Ends shape n (b ∷ s) → (s ≡ [] → ⊥) → (shape_turn shape n b ≡ more) × Ends shape (suc n) s
 ends_next (last n b d) z = absurd (z refl)

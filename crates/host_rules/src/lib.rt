@@ -1,1 +1,2 @@
 // Definitions and proofs; no function.
+#![tactic(auto)]

@@ -1,4 +1,5 @@
 // The kinds of call, and how the reply of each ends.
+#![tactic(auto)]
 ghost use Rattle.std.specs.Prelude.{◌≡◌};
 ghost use Rattle.serial_rules.specs.Reply.{shape_of, form_of, block_in, kind_from, kind_in};
 ghost use Rattle.shapes.specs.Shapes.{shape_for};
@@ -7,7 +8,7 @@ ghost use Rattle.kind.specs.Kinds.{kind_for, found_for};
 use shapes::Shape;
 
 // A call as far as its reply goes; OSWORD carries the number of bytes that come back.
-#[derive(Drop)]
+#[derive(Clone, Copy)]
 pub enum CallKind {
     Osrdch,
     Oscli,
@@ -25,7 +26,7 @@ pub enum CallKind {
 }
 
 // The kind of a request, or that its code is that of no call.
-#[derive(Drop)]
+#[derive(Clone, Copy)]
 pub enum Found {
     Known(CallKind),
     NoCall,

@@ -122,7 +122,7 @@ pub record StepDone (link : Link) (reply own : List ℕ) (raw : ℕ) (r : Steppe
   pub answer : report_of r.answer reply-left own-left ≡ (rules.step (view_of link reply own) raw).report
   pub answer_is : r.answer ≡ answer_for (rules.step (view_of link reply own) raw).report
   pub next : view_of r.link reply-left own-left ≡ (rules.step (view_of link reply own) raw).next
-  pub reply_bytes_lem : reply-left ≡ reply_after (view_of link reply own) raw reply
+  pub reply_bytes : reply-left ≡ reply_after (view_of link reply own) raw reply
   pub own_bytes : own-left ≡ own_after (view_of link reply own) raw own
   -- a stopped link is unchanged; any other refusal leaves the record given, stopped
   pub kept : view_of link reply own ≡ rules.stopped → r.link ≡ link

@@ -1,5 +1,6 @@
 // The client's end of the serial lead: a link is idle or waits for the reply to one call, and actions and transfers may come inside it. What it may hold,
 // a call begun, and the records that a raw byte can leave; which of them it leaves is crate `link_step`.
+#![tactic(auto)]
 ghost use Rattle.std.specs.Prelude.{◌<◌, ◌≤◌, ◌≡◌, true};
 ghost use Rattle.kind.specs.Kinds.{reply_lent};
 ghost use Rattle.link.specs.View.{reply_room, own_room, nest_room, usable_of, own_lent, fresh, BeginDone, BeginNoneDone};
@@ -10,14 +11,14 @@ use answers::Answer;
 use kind::CallKind;
 
 // What waits: nothing, or one call of a kind.
-#[derive(Drop)]
+#[derive(Clone, Copy)]
 pub enum Wait {
     Idle,
     Waiting(CallKind),
 }
 
 // What the actions do: nothing, or one of them is open.
-#[derive(Drop)]
+#[derive(Clone, Copy)]
 pub enum Doing {
     Quiet,
     Open(Action),
@@ -26,7 +27,7 @@ pub enum Doing {
 // A link. The reply so far is the first `got` bytes of the lent reply, the open action's own bytes the first `held` of the other lent bytes.
 // `nested` is the open transfers: 0 where none is open, 2n + 1 for a load inside those of n, 2n + 2 for a save. A record over its limits counts
 // as stopped.
-#[derive(Drop)]
+#[derive(Clone, Copy)]
 pub struct Link {
     pub wait: Wait,
     pub got: u16,
@@ -37,21 +38,21 @@ pub struct Link {
     pub stopped: bool,
 }
 
-#[derive(Drop)]
+#[derive(Clone, Copy)]
 pub struct Stepped {
     pub answer: Answer,
     pub link: Link,
 }
 
 // What a begun call gives: it waits; it is complete, since it has no reply byte; or a refusal by document 01's number.
-#[derive(Drop)]
+#[derive(Clone, Copy)]
 pub enum Begun {
     Waits,
     Complete,
     Denied(u8),
 }
 
-#[derive(Drop)]
+#[derive(Clone, Copy)]
 pub struct Started {
     pub answer: Begun,
     pub link: Link,

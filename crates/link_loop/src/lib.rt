@@ -1,4 +1,5 @@
 // The loop over raw bytes: it passes over what is not a reply, and loses nothing that was reported.
+#![tactic(auto)]
 ghost use Rattle.std.specs.Prelude.{◌<◌, ◌≡◌, true, false, length};
 ghost use Rattle.kind.specs.Kinds.{reply_lent};
 ghost use Rattle.link.specs.View.{usable_of};
@@ -14,7 +15,7 @@ use turns::Turn;
 
 // Where the loop ended: a finished reply, an error or restart, a refusal, or need-more at the end of its raw bytes; how many of them it used;
 // how many notes and how many bytes of data it wrote; the link.
-#[derive(Drop)]
+#[derive(Clone, Copy)]
 pub struct Ran {
     pub answer: Answer,
     pub used: usize,
@@ -24,7 +25,7 @@ pub struct Ran {
 }
 
 // Bytes of a reply that were taken at once: how many raw bytes they are, how many bytes of the reply came so far, and whether it is whole.
-#[derive(Drop)]
+#[derive(Clone, Copy)]
 struct Taken {
     used: usize,
     got: usize,

@@ -39,8 +39,8 @@ RangedDoing (Open (Block n)) = (0 < n) × (n < 128)
 abbrev pub Ranged : Link → Type 0
 Ranged l = (l.nested ≤ 30) × RangedDoing l.doing
 
-pub block_at_lem : (n : ℕ) → 6 < n → doing_at n ≡ Open (Block (n % 128))
-block_at_lem n h = rw (
+pub block_at : (n : ℕ) → 6 < n → doing_at n ≡ Open (Block (n % 128))
+block_at n h = rw (
   ne_eqb n 0 (λ e. omega arith),
   ne_eqb n 1 (λ e. omega arith),
   ne_eqb n 2 (λ e. omega arith),
@@ -60,7 +60,7 @@ doing_back_lem (Open (Address Load)) h = refl
 doing_back_lem (Open (Address Save)) h = refl
 doing_back_lem (Open (Block n)) h =
     let e : (128 + n % 128) % 128 ≡ n = omega arith in
-    block_at_lem (128 + n % 128) (omega arith) ∙ ap (λ (k : ℕ). Open (Block k)) e
+    block_at (128 + n % 128) (omega arith) ∙ ap (λ (k : ℕ). Open (Block k)) e
 
 -- the flags of a link, by the number of the open transfers
 pub flags_low : (seen stopped : Bool) (n : ℕ) → n ≤ 30 → flags_number seen stopped n ≡ 4 * n + cond seen 1 0 + cond stopped 2 0
@@ -133,7 +133,7 @@ doing_same n h = go (leb n 6) refl (leb 129 n) refl (leb n 255) refl h
     go false low true e true d k =
         let m = leb-true 129 n e in
         let w = leb-true n 255 d in
-        ap doing_number (block_at_lem n (omega arith)) ∙ omega arith
+        ap doing_number (block_at n (omega arith)) ∙ omega arith
     go false low true e false d k = let z : ◌≡◌ {A = ℕ} 0 1 = cc in absurd (omega arith)
     go false low false e c d k = let z : ◌≡◌ {A = ℕ} 0 1 = cc in absurd (omega arith)
 
@@ -171,7 +171,7 @@ doing_ranged n h = go (leb n 6) refl (leb 129 n) refl (leb n 255) refl h
     go false low true e true d k =
         let m = leb-true 129 n e in
         let w = leb-true n 255 d in
-        subst RangedDoing (sym (block_at_lem n (omega arith))) (omega arith, omega arith)
+        subst RangedDoing (sym (block_at n (omega arith))) (omega arith, omega arith)
     go false low true e false d k = let z : ◌≡◌ {A = ℕ} 0 1 = cc in absurd (omega arith)
     go false low false e c d k = let z : ◌≡◌ {A = ℕ} 0 1 = cc in absurd (omega arith)
 

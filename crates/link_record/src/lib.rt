@@ -1,4 +1,5 @@
 // The link as a flat record: numbers for its enums and bools, with total conversions, so that it can cross to C.
+#![tactic(auto)]
 ghost use Rattle.std.specs.Prelude.{◌≡◌};
 ghost use Rattle.link_record.specs.Records.{wait_at, doing_at, link_of, tags_ok, fresh_link, wait_number, wait_out, doing_number, flags_number, flat_of};
 
@@ -11,7 +12,7 @@ use link::{Doing, Link, Wait};
 // the link is stopped, and 4 times the number of the open transfers. A record with `wait` above 13, `action` from 7 to 128 or `flags` above 123
 // counts as stopped. It has eight bytes, so that it crosses to C in one register.
 #[repr(C)]
-#[derive(Drop)]
+#[derive(Clone, Copy)]
 pub struct FlatLink {
     pub got: u16,
     pub held: u16,

@@ -250,7 +250,7 @@ module _ (l : Link) (reply own : List ℕ) (x : ℕ) (lent : length reply ≡ re
         let n = o.link in
         let most : room_in (view_of n reply-left own-left) ≤ reply_lent = subst (λ (q : rules.Link). room_in q ≤ reply_lent) (sym d.next) (room_kept v x room) in
         let wait : reply_room n.wait ≤ reply_lent = rw (u, room_is n.wait) at most in
-        let replies : length reply-left ≡ length reply = ap length d.reply_bytes_lem ∙ reply_length v x reply in
+        let replies : length reply-left ≡ length reply = ap length d.reply_bytes ∙ reply_length v x reply in
         let owns : length own-left ≡ length own = ap length d.own_bytes ∙ own_length v x own in
         let got : n.got ≤ length reply-left = omega (arith, usable_got n u, wait, replies, lent) in
         let held : n.held ≤ length own-left = omega (arith, usable_held n u, own_fits n.doing, owns, given) in
@@ -281,7 +281,7 @@ pub settled : {l : Link} {reply own reply-left own-left reply-end own-end : List
     reply_room l.wait ≤ reply_lent → StepDone l reply own x o reply-left own-left → StepDone l reply own x p reply-end own-end →
     (o ≡ p) × (reply-left ≡ reply-end) × (own-left ≡ own-end)
 settled {l} {reply} {own} {x = x} {o} {p} lent given fits d e =
-    (ap₂ pair (d.answer_is ∙ sym e.answer_is) (go (usable_of l) refl), d.reply_bytes_lem ∙ sym e.reply_bytes_lem, d.own_bytes ∙ sym e.own_bytes)
+    (ap₂ pair (d.answer_is ∙ sym e.answer_is) (go (usable_of l) refl), d.reply_bytes ∙ sym e.reply_bytes, d.own_bytes ∙ sym e.own_bytes)
   where
     go : (t : Bool) → usable_of l ≡ t → o.link ≡ p.link
     go true u = link_is l reply own x lent given fits d u ∙ sym (link_is l reply own x lent given fits e u)

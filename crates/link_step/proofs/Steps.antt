@@ -50,7 +50,7 @@ use Rattle.link.proofs.Limits.{usable_got, usable_held, usable_nested, nested_lo
 module _ (l : Link) (reply own : List ℕ) where
   refused_gives : (n : ℕ) → LinkGives l (rules.gives (rules.refusal n) rules.stopped) reply own (refused_from l n) reply own
   unfolding usable_of
-  refused_gives n = record { step_is = refl; answer_is = refl; reply_bytes_lem = refl; own_bytes = refl; stops = λ k e. refl }
+  refused_gives n = record { step_is = refl; answer_is = refl; reply_bytes = refl; own_bytes = refl; stops = λ k e. refl }
 
   paused_gives : usable_of l ≡ true →
       LinkGives l (rules.gives rules.need_more (rules.live (rules.layer true (doing_of l own) (nest_of l.nested)) (frame_of l reply))) reply own (paused_from l) reply own
@@ -63,7 +63,7 @@ module _ (l : Link) (reply own : List ℕ) where
           lt-ltb l.nested (nest_room l.doing) (usable_nested l u),
         );
     answer_is = refl;
-    reply_bytes_lem = refl;
+    reply_bytes = refl;
     own_bytes = refl;
     stops = λ k e. absurd (told variant.More (omega arith) k e);
   }
@@ -74,7 +74,7 @@ module _ (l : Link) (reply own : List ℕ) where
   going_gives a d n u h m t is = record {
     step_is = simp (lt-ltb l.got (reply_room l.wait) (usable_got l u), lt-ltb n (own_room d) h, lt-ltb l.nested (nest_room d) m);
     answer_is = is;
-    reply_bytes_lem = refl;
+    reply_bytes = refl;
     own_bytes = refl;
     stops = λ k e. absurd (told a t k e);
   }
@@ -90,7 +90,7 @@ module _ (l : Link) (reply own : List ℕ) where
   nesting_gives a n u m t is = record {
     step_is = simp (lt-ltb l.got (reply_room l.wait) (usable_got l u), lt-ltb n 31 (omega arith));
     answer_is = is;
-    reply_bytes_lem = refl;
+    reply_bytes = refl;
     own_bytes = refl;
     stops = λ k e. absurd (told a t k e);
   }
@@ -101,7 +101,7 @@ module _ (l : Link) (reply own : List ℕ) where
   resting_gives a w n h t is = record {
     step_is = simp (lt-ltb n (reply_room w) h, nest_none);
     answer_is = is;
-    reply_bytes_lem = refl;
+    reply_bytes = refl;
     own_bytes = refl;
     stops = λ k e. absurd (told a t k e);
   }
@@ -341,7 +341,7 @@ module _ (l : Link) (reply own : List ℕ) (raw : ℕ) where
     answer = rw u;
     answer_is = rw u;
     next = rw u;
-    reply_bytes_lem = rw u;
+    reply_bytes = rw u;
     own_bytes = rw u;
     kept = λ e. refl;
     stops = λ n runs e. absurd (runs (rw u));
@@ -355,7 +355,7 @@ module _ (l : Link) (reply own : List ℕ) (raw : ℕ) where
     answer = rw (u, e) (ap (λ (s : rules.Step). s.report) g.step_is);
     answer_is = rw (u, e) g.answer_is;
     next = rw (u, e) (ap (λ (s : rules.Step). s.next) g.step_is);
-    reply_bytes_lem = rw (u, e) g.reply_bytes_lem;
+    reply_bytes = rw (u, e) g.reply_bytes;
     own_bytes = rw (u, e) g.own_bytes;
     kept = rw u (λ k. let z : ◌≡◌ {A = ℕ} 0 1 = cc in absurd (omega arith));
     stops = λ n _ r. g.stops n r;

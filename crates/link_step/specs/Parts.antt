@@ -36,16 +36,16 @@ abbrev pub step_of : Stepped → List ℕ → List ℕ → rules.Step
 step_of r reply own = rules.gives (report_of r.answer reply own) (view_of r.link reply own)
 
 -- The result is that of a step of the rules, and the lent bytes left are those `after`; a refusal leaves the record given, stopped.
-pub record LinkGives (link : Link) (step : rules.Step) (reply-after own_after_lem : List ℕ) (r : Stepped) (reply-left own-left : List ℕ) : Type 0 where
+pub record LinkGives (link : Link) (step : rules.Step) (reply-after own-after : List ℕ) (r : Stepped) (reply-left own-left : List ℕ) : Type 0 where
   pub step_is : step_of r reply-left own-left ≡ step
   pub answer_is : r.answer ≡ answer_for step.report
-  pub reply_bytes_lem : reply-left ≡ reply-after
-  pub own_bytes : own-left ≡ own_after_lem
+  pub reply_bytes : reply-left ≡ reply-after
+  pub own_bytes : own-left ≡ own-after
   pub stops : (n : ℕ) → r.answer ≡ variant.Refused n → r.link ≡ stopped_from link
 
 abbrev pub Met : Link → List ℕ → List ℕ → rules.Seen → Stepped → List ℕ → List ℕ → Type 0
-Met l reply own_after_lem s r reply-left own-left =
-    LinkGives l (seen_step (frame_of l reply) s) (token_lent reply (frame_of l reply) s.token) own_after_lem r reply-left own-left
+Met l reply own-after s r reply-left own-left =
+    LinkGives l (seen_step (frame_of l reply) s) (token_lent reply (frame_of l reply) s.token) own-after r reply-left own-left
 
 -- a mark, whatever bytes are lent: any; one outside an action, by what it means
 abbrev pub MarkDone : Link → ℕ → Stepped → Type 0

@@ -1,4 +1,5 @@
 // The marks of the serial protocol, and what each may be.
+#![tactic(auto)]
 mod tables;
 
 ghost use Rattle.std.specs.Prelude.{◌≡◌};
@@ -6,7 +7,7 @@ ghost use Rattle.serial_rules.specs.Marks.{outward_class, inward_class, class_of
 ghost use Rattle.marks.specs.Ways.{way_of};
 
 // The two ways of a mark: outward, in a request, and inward, before an action.
-#[derive(Drop)]
+#[derive(Clone, Copy)]
 enum Way {
     Outward,
     Inward,

@@ -1,5 +1,6 @@
 // Notes of what a reader of many bytes passed over, and the load data and control blocks among it, written into lent bytes: as far as these have
 // room, and counted where they have none, so that the same reader measures what it needs.
+#![tactic(auto)]
 ghost use Rattle.std.specs.Prelude.{◌+◌, ◌*◌, ◌-◌, ◌≤◌, ◌<◌, ◌≡◌, true, cond, [], ◌∷◌, length, take};
 ghost use Rattle.actions.specs.Actions.{target_for};
 ghost use Rattle.escape.specs.Put.{Put};
@@ -10,7 +11,7 @@ use actions::Target;
 use answers::Answer;
 
 // How many notes were made, how many bytes of data there were, and how many load bytes the last note counts, 0 where it is of something else.
-#[derive(Drop)]
+#[derive(Clone, Copy)]
 pub struct Log {
     pub noted: usize,
     pub stored: usize,

@@ -1,4 +1,5 @@
 // Where the fields of a body or of a reply lie: a byte by its place, the last byte, and a place that the bytes may not reach.
+#![tactic(auto)]
 ghost use Rattle.std.specs.Prelude.{◌-◌, min, ◌≡◌, take, drop};
 ghost use Rattle.serial_rules.specs.Fields.{at, last};
 ghost use Rattle.places.specs.Part.{PartDone};
@@ -25,7 +26,7 @@ pub fn last_byte(bytes: &[u8]) -> u8
 }
 
 // A part of bytes: its place and its length.
-#[derive(Drop)]
+#[derive(Clone, Copy)]
 pub struct Part {
     pub start: usize,
     pub length: usize,

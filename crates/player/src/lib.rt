@@ -1,4 +1,5 @@
 // The exports that play a script and write its text.
+#![tactic(auto)]
 ghost use Rattle.script.specs.Script.{PlayDone};
 ghost use Rattle.script_text.specs.Text.{TextDone};
 

@@ -1,4 +1,5 @@
 // The reader of a whole recorded reply, the raw bytes that came behind one call.
+#![tactic(auto)]
 ghost use Rattle.std.specs.Prelude.{◌≤◌, ◌<◌, ◌≡◌, ◌∷◌, length, take, drop};
 ghost use Rattle.escape.specs.Put.{over};
 ghost use Rattle.serial_rules.specs.Reply.{shape_of, longest};
@@ -16,7 +17,7 @@ use transfers::End;
 use turns::Turn;
 
 // What is read of a recording: how it ended, need-more where it ran out; how many raw bytes were used; how many notes and bytes of data it gives.
-#[derive(Drop)]
+#[derive(Clone, Copy)]
 pub struct Recorded {
     pub answer: Answer,
     pub used: usize,
@@ -24,7 +25,7 @@ pub struct Recorded {
     pub stored: usize,
 }
 
-#[derive(Drop)]
+#[derive(Clone, Copy)]
 struct Ended {
     answer: Answer,
     at: usize,

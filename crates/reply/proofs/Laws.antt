@@ -19,7 +19,7 @@ use Rattle.reply.specs.Parts.{numbers_at, block_at}
 
 -- what was read is the reply
 pub given_is : {s : List ℕ} {g : rules.Given} {r : Given} → GivenDone s g r → given_in r s ≡ g
-given_is d = rw (d.reply_is, d.block_at_lem.bytes_are, d.text_at.bytes_are)
+given_is d = rw (d.reply_is, d.block_at.bytes_are, d.text_at.bytes_are)
 
 -- a part that stands behind so many bytes
 behind : {s b : List ℕ} {k n : ℕ} {p : Part} → k ≡ n → PartDone s n b p → PartDone s k b p
@@ -27,7 +27,7 @@ behind e d = rw e d
 
 -- a reply with a block, and one of numbers alone
 pub block_given : (s b : List ℕ) (r : Reply) (g : rules.Reply) (p : Part) → reply_for r ≡ g → line_before g ≡ 0 → PartDone s (reply_block_before g) b p → GivenDone s (rules.given g b []) (block_at r p)
-block_given s b r g p e h d = record { reply_is = e; block_at_lem = d; text_at = behind h (part_none s) }
+block_given s b r g p e h d = record { reply_is = e; block_at = d; text_at = behind h (part_none s) }
 
 pub numbers_given : (s : List ℕ) (r : Reply) (g : rules.Reply) → reply_for r ≡ g → line_before g ≡ 0 → reply_block_before g ≡ 0 → GivenDone s (rules.given g [] []) (numbers_at r)
 numbers_given s r g e h k = block_given s [] r g none e h (behind k (part_none s))
@@ -40,7 +40,7 @@ gone_given s h = rw h (numbers_given s EscapedLine rules.escaped_line refl refl 
 pub typed_given : (s : List ℕ) (p : Part) → rules.flag (at s 0) ≡ false → PartDone s 1 (take (length s - 2) (drop 1 s)) p
     → GivenDone s (rules.reply_read rules.osword0 s) (record { reply = ReadLine; block = none; text = p })
 unfolding rules.reply_read
-typed_given s p h d = rw h (record { reply_is = refl; block_at_lem = part_none s; text_at = d })
+typed_given s p h d = rw h (record { reply_is = refl; block_at = part_none s; text_at = d })
 
 -- the kind of the call decides what is read
 pub by_kind : (k q : CallKind) (s : List ℕ) (g : rules.Given) (r : Given) → k ≡ q → rules.reply_read (kind_for q) s ≡ g → GivenDone s g r → GivenDone s (rules.reply_read (kind_for k) s) r

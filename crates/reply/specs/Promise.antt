@@ -35,7 +35,7 @@ line_before r = cond (rules.has_line r) 1 0
 -- The result is the reply g of the rules, and its parts are at their places in the bytes.
 pub record GivenDone (s : List ℕ) (g : rules.Given) (r : Given) : Type 0 where
   pub reply_is : reply_for r.reply ≡ g.reply
-  pub block_at_lem : PartDone s (reply_block_before g.reply) g.block r.block
+  pub block_at : PartDone s (reply_block_before g.reply) g.block r.block
   pub text_at : PartDone s (line_before g.reply) g.text r.text
 
 -- What `read_reply` promises of the kind, the bytes and the result.

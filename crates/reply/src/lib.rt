@@ -1,4 +1,5 @@
 // The replies that a host sends to the call that waits, and their fields in the bytes that were read.
+#![tactic(auto)]
 ghost use Rattle.std.specs.Prelude.{◌≡◌, [], drop};
 ghost use Rattle.serial_rules.specs.Fields.{at};
 ghost use Rattle.serial_rules.specs.Reply.{osword0, a_block, given, flag, reply_read};
@@ -12,7 +13,7 @@ use places::Part;
 // A reply with its numbers; its block and its string are given beside it. Each is named for what document 01 says of it: "Cy A"; "ack";
 // one number, "X" or "A"; "Cy Y X"; "out length bytes"; "escaped, or line string"; "A, 4 bytes" or "A, 16 bytes"; "one byte" without a
 // meaning; "13 bytes, Cy A".
-#[derive(Drop)]
+#[derive(Clone, Copy)]
 pub enum Reply {
     CarryA { carry: bool, a: u8 },
     Ack(bool),
@@ -27,7 +28,7 @@ pub enum Reply {
 }
 
 // A reply read: its numbers, and where its block and its string lie in the bytes.
-#[derive(Drop)]
+#[derive(Clone, Copy)]
 pub struct Given {
     pub reply: Reply,
     pub block: Part,

@@ -1,4 +1,5 @@
 // What each reply is made of, and whether it fits the kind of the call that waits.
+#![tactic(auto)]
 ghost use Rattle.std.specs.Prelude.{◌≡◌, false, [], ◌∷◌};
 ghost use Rattle.serial_rules.specs.Reply.{carry_byte, ack_byte};
 ghost use Rattle.kind.specs.Kinds.{kind_for};
@@ -16,7 +17,7 @@ const PLAIN: u8 = 0x7F;
 
 // What a reply is made of: its form, numbered as `CallKind::form` numbers them, whether it has a block or a line; and its numbers, the
 // first `before` of `head` before block or line, the first `behind` of `tail` behind it.
-#[derive(Drop)]
+#[derive(Clone, Copy)]
 pub struct Parts {
     pub form: u8,
     pub block: bool,

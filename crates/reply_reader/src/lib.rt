@@ -1,4 +1,5 @@
 // The parasite's end of R2: the reply to the call that waits on the parallel side, by the byte.
+#![tactic(auto)]
 ghost use Rattle.std.specs.Prelude.{◌≤◌, ◌≡◌, length};
 ghost use Rattle.serial_rules.specs.Reply.{longest};
 ghost use Rattle.shapes.specs.Shapes.{shape_for};
@@ -10,7 +11,7 @@ use shapes::Shape;
 use turns::Turn;
 
 // What a byte does to the reply, and how many bytes of it there are then.
-#[derive(Drop)]
+#[derive(Clone, Copy)]
 pub struct Taken {
     pub turn: Turn,
     pub count: u16,

@@ -18,12 +18,12 @@ use Rattle.request.specs.Parts.{asks_at}
 
 -- what was read are the fields
 pub fields_are : {s : List ℕ} {f : rules.Fields} {r : Asked} → AskedDone s f r → fields_in r s ≡ f
-fields_are d = rw (d.call_is, d.block_at_lem.bytes_are, d.text_at.bytes_are)
+fields_are d = rw (d.call_is, d.block_at.bytes_are, d.text_at.bytes_are)
 
 -- a call with its parts
 pub asked : (code : ℕ) (s : List ℕ) (call : Call) (c : rule.Call) (b t : List ℕ) (p q : Part) → is_code code ≡ true → rules.fields_of code s ≡ rules.fields c b t
     → call_of call ≡ c → PartDone s (block_before c) b p → PartDone s (text_before c) t q → IsRequestRead code s (asks_at call p q)
-asked code s call c b t p q is e f block text = (is, rw e (record { call_is = f; block_at_lem = block; text_at = text }))
+asked code s call c b t p q is e f block text = (is, rw e (record { call_is = f; block_at = block; text_at = text }))
 
 -- the two requests of OSFIND
 pub closes : (s : List ℕ) → rules.at s 0 ≡ 0 → rules.fields_of 0x12 s ≡ rules.fields (rule.osfind_close (rules.at s 1)) [] []

@@ -24,7 +24,7 @@ text_before c = cond (has_string c) (length (head_of c 0) + block_length c 0) 0
 -- The result has the fields f of the rules, and their parts are at their places in the body.
 pub record AskedDone (s : List ℕ) (f : rules.Fields) (r : Asked) : Type 0 where
   pub call_is : call_of r.call ≡ f.call
-  pub block_at_lem : PartDone s (block_before f.call) f.block r.block
+  pub block_at : PartDone s (block_before f.call) f.block r.block
   pub text_at : PartDone s (text_before f.call) f.text r.text
 
 -- What `read_request` promises of the code, the body and the result: the fields of a request, and no call just where no request has the code.

@@ -1,4 +1,5 @@
 // The fields of a finished request, taken out of its body.
+#![tactic(auto)]
 ghost use Rattle.std.specs.Prelude.{◌≡◌};
 ghost use Rattle.places.specs.Part.{none};
 ghost use Rattle.request.specs.Promise.{IsRequestRead};
@@ -9,7 +10,7 @@ use places::Part;
 use strings::Text;
 
 // A request read: its call with its numbers, and where its block and its string lie in the body.
-#[derive(Drop)]
+#[derive(Clone, Copy)]
 pub struct Asked {
     pub call: Call,
     pub block: Part,
@@ -17,7 +18,7 @@ pub struct Asked {
 }
 
 // The fields of a request, or that its code is that of no call.
-#[derive(Drop)]
+#[derive(Clone, Copy)]
 pub enum RequestRead {
     Fields(Asked),
     NoCall,

@@ -6,11 +6,9 @@ use native.Mathlib.Numerals.{add-one}
 use native.Mathlib.Omega.{arith}
 use lib.ListN.{length, take, drop, replicate, get_or, length-take, length-drop, length-append, length-replicate, replicate-append-replicate}
 use lib.Seq.{take-suc, take-add}
-use types.Run.{OneOf, miss}
-use denote.Enum.Declared.{tag_of}
 use Rattle.serial_rules.specs.Reader as rules
 use Rattle.serial_rules.proofs.Lent.{take_behind}
-use Rattle.request_reader.specs.contracts.Answer as answers
+
 use Rattle.request_reader.specs.declared.Reader.{Reader}
 use Rattle.request_reader.specs.declared.Answer.{Answer}
 use Rattle.request_reader.specs.declared.Answer.TheVariants.{More, Character, Request, Refused}
@@ -26,12 +24,9 @@ one_more : {r q : Reader} {lent xs left end : List ℕ} {gave : List rules.Answe
 one_more stop d = took d stop
 one_more (took e t) d = took e (one_more t d)
 
--- the answers other than need-more
-abbrev pub others : List ℕ
-others = 1 ∷ 2 ∷ 3 ∷ []
-
-other_last : (a : Answer) (left : List ℕ) → OneOf others (tag_of answers.the_type a) → last_of a left ≡ answer_of a left ∷ []
-other_last More left h = absurd (miss others 0 tt h)
+-- an answer other than need-more is the last
+other_last : (a : Answer) (left : List ℕ) → (a ≡ More → ⊥) → last_of a left ≡ answer_of a left ∷ []
+other_last More left h = absurd (h refl)
 other_last (Character b) left h = refl
 other_last (Request style code n) left h = refl
 other_last (Refused n) left h = refl
@@ -60,7 +55,7 @@ module _ {r q : Reader} {lent left : List ℕ} (raw : List ℕ) (i : ℕ) (so_fa
       → Read r lent (take (i + 1) raw) (replicate (i + 1) rules.need_more) o.reader end
   again h d e = rw (← replicate-append-replicate i 1 rules.need_more) (rw e at (stepped h d))
 
-  pub answered : {o : Stepped} {end : List ℕ} → i < length raw → StepDone q left (get_or raw i 0) o end → OneOf others (tag_of answers.the_type o.answer)
+  pub answered : {o : Stepped} {end : List ℕ} → i < length raw → StepDone q left (get_or raw i 0) o end → (o.answer ≡ More → ⊥)
       → FeedDone r lent raw (record { answer = o.answer; used = i + 1; reader = o.reader }) end
   answered {o} {end} h d other =
       record {
@@ -69,7 +64,7 @@ module _ {r q : Reader} {lent left : List ℕ} (raw : List ℕ) (i : ℕ) (so_fa
         sized = d.answer_is ∙ ap answer_for (sym d.answer);
         within = omega arith;
         steps = rw (other_last o.answer end other) (stepped h d);
-        ended = λ e. absurd (miss others 0 tt (rw e at other));
+        ended = λ e. absurd (other e);
       }
 
   pub needs_more : length raw ≤ i → i ≤ length raw → FeedDone r lent raw (record { answer = More; used = i; reader = q }) left

@@ -1,4 +1,5 @@
 // The request reader over slices of raw bytes: step by step, and runs of plain bytes in the middle of a field at once.
+#![tactic(auto)]
 ghost use Rattle.std.specs.Prelude.{◌+◌, ◌≤◌, ◌<◌, ◌≡◌, true, false, length};
 ghost use Rattle.request_reader.specs.View.{body_room, inside_limits, keeps_limits};
 ghost use Rattle.request_reader.specs.declared.Phase.TheVariants.{Inside};
@@ -8,7 +9,7 @@ ghost use Rattle.request_loop.specs.Pass.{passed_from, PassDone};
 use request_reader::{Answer, Phase, Reader};
 
 // What a slice of raw bytes gives: its first answer that is not need-more, or need-more where it ends first; the bytes used; the reader.
-#[derive(Drop)]
+#[derive(Clone, Copy)]
 pub struct Fed {
     pub answer: Answer,
     pub used: usize,

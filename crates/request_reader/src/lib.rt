@@ -1,4 +1,5 @@
 // The stepwise reader of requests: one raw byte at a time, the body so far in bytes that the caller lends.
+#![tactic(auto)]
 ghost use Rattle.std.specs.Prelude.{◌≡◌, true, length};
 ghost use Rattle.escape.specs.Layer.{piece_for};
 ghost use Rattle.serial_rules.specs.Reader.{piece_outside, piece_inside, starts};
@@ -11,7 +12,7 @@ use carrier::Carrier;
 use escape::Piece;
 use turns::Turn;
 
-#[derive(Drop)]
+#[derive(Clone, Copy)]
 pub enum Phase {
     Outside,
     Inside,
@@ -20,7 +21,7 @@ pub enum Phase {
 
 // A reader. The body so far is the first `count` bytes of the lent body; outside a request style, code and count are 0. A record over its
 // limits counts as stopped.
-#[derive(Drop)]
+#[derive(Clone, Copy)]
 pub struct Reader {
     pub carrier: Carrier,
     pub phase: Phase,
@@ -32,7 +33,7 @@ pub struct Reader {
 
 // What a raw byte gives: more is needed; a character; a finished request, whose body is the first `length` bytes of the lent body; or
 // a refusal by document 01's number.
-#[derive(Drop)]
+#[derive(Clone, Copy)]
 pub enum Answer {
     More,
     Character(u8),
@@ -40,7 +41,7 @@ pub enum Answer {
     Refused(u8),
 }
 
-#[derive(Drop)]
+#[derive(Clone, Copy)]
 pub struct Stepped {
     pub answer: Answer,
     pub reader: Reader,

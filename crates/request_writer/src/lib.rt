@@ -1,4 +1,5 @@
 // The writer of the requests of the calls that a client sends.
+#![tactic(auto)]
 ghost use Rattle.std.specs.Prelude.{◌≡◌};
 ghost use Rattle.carrier.specs.Carriers.{carrier_of};
 ghost use Rattle.fields.specs.Promise.{Encoded};

@@ -1,4 +1,5 @@
 // Whether a heading and fields of data bytes fit into so many raw bytes.
+#![tactic(auto)]
 ghost use Rattle.std.specs.Prelude.{◌≡◌, ◌++◌, leb, length};
 ghost use Rattle.room.specs.Carriers.{coded, added_on, parts_raw};
 ghost use Rattle.room.specs.Room.{left_of};
@@ -6,7 +7,7 @@ ghost use Rattle.room.specs.Room.{left_of};
 use carrier::Carrier;
 
 // What is left of the room, or that there was too little.
-#[derive(Drop)]
+#[derive(Clone, Copy)]
 enum Left {
     Room(usize),
     Short,

@@ -1,11 +1,12 @@
 // Plays a script of accesses: records of three bytes, and three result bytes for each.
+#![tactic(auto)]
 ghost use Rattle.std.specs.Prelude.{◌*◌, ◌≤◌, length};
 ghost use Rattle.script.specs.Script.{event_of, StepDone, RecordsDone, PlayDone};
 
 use chip::Chip;
 
 // What one record gives: the number of the answer, the byte, the line value after it, and the chip.
-#[derive(Drop)]
+#[derive(Clone, Copy)]
 pub struct Stepped {
     pub answer: u8,
     pub byte: u8,
@@ -15,7 +16,7 @@ pub struct Stepped {
 
 // What a script gives: the records played, the final answer and the chip after the last of them.
 #[repr(C)]
-#[derive(Drop)]
+#[derive(Clone, Copy)]
 pub struct Played {
     pub played: usize,
     pub answer: u8,

@@ -40,6 +40,7 @@ one_less n = omega arith
 ends_turns : (k : Kind) (got : List ℕ) {n : ℕ} {s : List ℕ} → n ≡ length got → n < longest (shape_of k) → Ends (shape_of k) n s → reply_turns k got s ≡ last_done (length s - 1)
 unfolding reply_turns
 ends_turns k got e h (last n b d) = ap (λ (t : Turn). t ∷ []) (turn_within k got b (omega (arith, e)) ∙ ap (λ (i : ℕ). shape_turn (shape_of k) i b) (sym e) ∙ d)
+ends_turns k got e h (next n b [] d w) = elim w [ ]
 ends_turns k got e h (next n b (c ∷ s) d w) =
     ap₂ (λ (t : Turn) (l : List Turn). t ∷ l) (turn_within k got b (omega (arith, e)) ∙ ap (λ (i : ℕ). shape_turn (shape_of k) i b) (sym e) ∙ d)
     (ends_turns k (got ++ (b ∷ [])) (ap suc e ∙ sym (length_snoc got b)) (omega (arith, more_fits (shape_of k) n b d)) w)

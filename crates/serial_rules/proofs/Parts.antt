@@ -110,6 +110,7 @@ own_signs o a h t e (last n b d) =
     data_signs o (own a h) b [] t
     ∙ ap (λ (o : Seen). fill (token underway) (second b) ++ signed o t) q
     ∙ ap (λ (l : List Input). fill (token underway) l ++ (token (finish a h b) ∷ signs (inside (opened a o)) t)) (sym (behind_data b [] ∙ append-nil (second b)))
+own_signs o a h t e (next n b [] m w) = elim w [ ]
 own_signs o a h t e (next n b (c ∷ s) m w) =
     let q : data_seen o (own a h) b ≡ own_byte o a h b more = ap (own_byte o a h b) (ap (λ (k : ℕ). shape_turn (own_shape a) k b) (sym e) ∙ m) in
     more_signs o a h b c s t q (own_signs o a (h ++ (b ∷ [])) t (ap suc e ∙ sym (length_snoc h b)) w)

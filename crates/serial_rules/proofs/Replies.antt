@@ -201,6 +201,7 @@ reads k got t e (last n b d) =
     data_told (frame (waiting k) got) b [] t
     ∙ ap (λ (m : Met). fill (report need_more) (second b) ++ (report m.report ∷ tells (link_at between m.next) t)) q
     ∙ ap (λ (l : List Input). fill (report need_more) l ++ (report (reply (got ++ (b ∷ []))) ∷ tells fresh t)) (sym (behind_data b [] ∙ append-nil (second b)))
+reads k got t e (next n b [] d w) = elim w [ ]
 reads k got t e (next n b (c ∷ s) d w) =
     let q : meets (frame (waiting k) got) (datum b) ≡ reply_turned k got b more = ap (reply_turned k got b) (ap (λ (i : ℕ). shape_turn (shape_of k) i b) (sym e) ∙ d) in
     let f = fill (report need_more) (second b) in

@@ -1,1 +1,2 @@
 // The serial protocol's rules are definitions (specs/) and theorems (proofs/); this crate has no function.
+#![tactic(auto)]

@@ -1,4 +1,5 @@
 // How bytes that belong together end: one byte against the number of bytes before it, and how many need no such look.
+#![tactic(auto)]
 ghost use Rattle.std.specs.Prelude.{◌+◌, ◌-◌, ◌≤◌, ◌<◌, ◌≡◌};
 ghost use Rattle.serial_rules.specs.Body.{fixed_turn};
 ghost use Rattle.serial_rules.specs.Reply.{line, text, shape_turn, longest};
@@ -10,7 +11,7 @@ use strings::Text;
 use turns::Turn;
 
 // How bytes that belong together end: so many of them; a line behind one byte; a text behind one number.
-#[derive(Drop)]
+#[derive(Clone, Copy)]
 pub enum Shape {
     Fixed(u8),
     Line,

@@ -14,7 +14,7 @@ use Rattle.serial_rules.specs.Call.{osfile, return, string_limit, body_of, block
 use Rattle.serial_rules.specs.Session.{has_zero}
 use Rattle.serial_rules.specs.Fields.{fields_of, last}
 use Rattle.serial_rules.proofs.Finished.{RequestRewritten}
-use Rattle.serial_rules.proofs.Trip.{and_both, or-false as both_false}
+use Rattle.serial_rules.proofs.Trip.{and_both, or_false as both_false}
 use Rattle.strings.specs.declared.Text.TheVariants.{Found, Refused}
 use Rattle.strings.specs.Text.{string_from, name_of, has_byte}
 

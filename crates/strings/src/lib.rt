@@ -1,11 +1,12 @@
 // The strings of the protocol.
+#![tactic(auto)]
 ghost use Rattle.std.specs.Prelude.{◌≡◌, ◌||◌, eqb};
 ghost use Rattle.serial_rules.specs.Call.{has_return};
 ghost use Rattle.serial_rules.specs.Session.{has_zero};
 ghost use Rattle.strings.specs.Text.{string_from, name_of, has_byte};
 
 // A string: its length without the &0D that ends it, or the number of the refusal.
-#[derive(Drop)]
+#[derive(Clone, Copy)]
 pub enum Text {
     Found(usize),
     Refused(u8),

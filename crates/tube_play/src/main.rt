@@ -1,4 +1,5 @@
 // Plays the script of standard input on a fresh chip and writes its text to standard output.
+#![tactic(auto)]
 use chip::Chip;
 use libc::{STDIN_FILENO, STDOUT_FILENO};
 

@@ -1,4 +1,5 @@
 // One byte of bytes that belong together, against the number n of bytes before it; and runs of bytes that need no such look.
+#![tactic(auto)]
 ghost use Rattle.std.specs.Prelude.{◌≡◌};
 ghost use Rattle.serial_rules.specs.Body.{fixed_turn, string_turn};
 ghost use Rattle.turns.specs.Turns.{turn_of};
@@ -8,7 +9,7 @@ use escape::Piece;
 use strings::Text;
 
 // What the byte does: more are needed, it is the last, or it is refused with document 01's number.
-#[derive(Drop)]
+#[derive(Clone, Copy)]
 pub enum Turn {
     More,
     Done,

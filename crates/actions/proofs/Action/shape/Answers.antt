@@ -1,0 +1,6 @@
+-- Each action has its shape.
+use borrow.Author.Rules.{rules}
+use Rattle.actions.proofs.Action.shape.Goals as goal
+
+pub returns-in-Block : goal.returns-in-Block
+returns-in-Block c = rw c.in-Block.is

@@ -1,0 +1,8 @@
+-- Each bit's weight, summed in the rules' order.
+use Rattle.chip_rules.specs.Rules.{status}
+use borrow.Author.Rules.{rules}
+use Rattle.chip.proofs.Chip.status.Goals as goal
+
+pub returns : goal.returns
+unfolding status
+returns c = rw (c.weight.ensures.0, c.is_ready.ensures, c.weight-2.ensures.0, c.has_room.ensures, c.fed_by.ensures.0, c.low_bits.ensures.0)

@@ -1,0 +1,6 @@
+-- The reader is flattened, and its answer is put beside it.
+use borrow.Author.Rules.{rules}
+use Rattle.flat_reader.proofs.flat_answer.Goals as goal
+
+pub returns : goal.returns
+returns c = rw (← c.flattened.ensures) c.flat_read.ensures

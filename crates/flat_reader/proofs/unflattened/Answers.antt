@@ -1,0 +1,6 @@
+-- Each number of the record has its field.
+use borrow.Author.Rules.{rules}
+use Rattle.flat_reader.proofs.unflattened.Goals as goal
+
+pub returns : goal.returns
+returns c = rw (c.at.ensures, c.phase_at.ensures)

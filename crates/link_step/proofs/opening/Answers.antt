@@ -1,0 +1,19 @@
+-- Each arm is what that mark means, whose law says what the record left promises.
+use borrow.Author.Rules.{rules}
+use Rattle.link_step.proofs.Steps.{start_some, opening, mark_unknown, escape_told}
+use Rattle.link_step.proofs.opening.Goals as goal
+
+pub starting-requires : goal.starting-requires
+starting-requires c = (c.requires, start_some c.args.m c.of-meaning.ensures c.in-Starts.is)
+
+pub returns-in-Unknown : goal.returns-in-Unknown
+returns-in-Unknown c = opening c.args.link c.args.m c.of-meaning.ensures c.in-Unknown.is (mark_unknown c.args.link c.refused.ensures)
+
+pub returns-in-State : goal.returns-in-State
+returns-in-State c = opening c.args.link c.args.m c.of-meaning.ensures c.in-State.is (escape_told c.args.link c.requires c.going.ensures)
+
+pub returns-in-End : goal.returns-in-End
+returns-in-End c = opening c.args.link c.args.m c.of-meaning.ensures c.in-End.is c.closing.ensures
+
+pub returns-in-Starts : goal.returns-in-Starts
+returns-in-Starts c = opening c.args.link c.args.m c.of-meaning.ensures c.in-Starts.is c.starting.ensures

@@ -1,0 +1,12 @@
+-- The first i bytes are copied.
+use Prim.Native.Nat.{◌-◌}
+use native.Mathlib.Omega.{arith}
+use borrow.Author.Rules.{rules}
+use Rattle.recorded.proofs.Whole.{Putting, puts_none, puts_next, puts_size, puts_all, puts_whole}
+use Rattle.recorded.proofs.put_first.Given as goal
+
+abbrev pub invariant-loop-i : goal.invariant-loop-i
+invariant-loop-i l = Putting l.bytes l.n l.initial.out l.out l.i
+
+abbrev pub decreases-loop-i : goal.decreases-loop-i
+decreases-loop-i l = l.n - l.i

@@ -1,0 +1,6 @@
+-- Bit 7 of the byte at the index.
+use borrow.Author.Rules.{rules}
+use Rattle.reply.proofs.flag_at.Goals as goal
+
+pub returns : goal.returns
+returns c = rw (← c.byte_at.ensures)
