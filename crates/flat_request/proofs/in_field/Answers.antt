@@ -27,13 +27,13 @@ slice_bounds-ahead-end c =
     sym (length-take-le c.args.reader.count c.args.body.now (omega arith))
 
 pub returns : goal.returns
-returns c =
+returns c e =
     record {
       inside = omega (arith, c.if-reader-ne1.false);
       shut = omega (arith, c.if-reader-ne0.false);
       style = sym c.has_style.ensures ∙ c.if-not-has_style.false;
       byte = sym c.is_plain.ensures ∙ c.if-not-is_plain.false;
       place = omega arith;
-      second = omega (arith, c.type_inv.body 1);
+      second = search rules;
       ahead = omega (arith, ltb-true 0 c.ahead.result e, c.ahead.ensures);
     }
