@@ -1,5 +1,6 @@
 // An action of a recording, the raw bytes that came behind one call: its mark and the bytes of its own.
 #![tactic(auto)]
+
 ghost use Rattle.std.specs.Prelude.{◌≤◌, ◌<◌, min, ◌≡◌, length};
 ghost use Rattle.serial_rules.specs.Link.{own_most, starts, meaning_of};
 ghost use Rattle.actions.specs.Actions.{action_for, meaning_for};

@@ -1,8 +1,8 @@
 -- The parts of an action make up its bytes, fit where the action does, and their arrays have room for their numbers.
 use Prim.Native.Nat.{ℕ, ◌≤◌}
-use mathlib.Core.Path.{◌≡◌, refl, sym, ap, ◌∙◌}
+use mathlib.Core.Path.{◌≡◌, refl, sym, ◌∙◌}
 use mathlib.Core.Bool.{Bool, true, false, not, ◌&&◌}
-use mathlib.Core.List.{List, [], ◌∷◌, ◌++◌, append-nil}
+use mathlib.Core.List.{List, [], ◌∷◌, append-nil}
 use native.Mathlib.Omega.{arith}
 use lib.Dec.{eqb, ltb}
 use lib.ListN.{length}
@@ -11,7 +11,7 @@ use Rattle.serial_rules.specs.Escape.{escape, escaped}
 use Rattle.serial_rules.specs.Session.{has_zero}
 use Rattle.serial_rules.proofs.Trip.{and_both}
 use Rattle.serial_rules.proofs.Finished.{zero_long}
-use Rattle.host_rules.specs.Actions.{Sent, failing, restarting, escape_state, event, address, control, ending, sent_raw, sent_ok, block_fits, has_text}
+use Rattle.host_rules.specs.Actions.{Sent, failing, restarting, escape_state, event, address, control, ending, sent_raw, sent_ok, block_fits}
 use Rattle.calls.specs.Rows.{length_byte}
 use Rattle.fields.proofs.Wrote.{no_text}
 use Rattle.action_parts.specs.declared.Parts.{Parts}

@@ -1,5 +1,6 @@
 // The actions that a host sends inward, what each is made of, and whether its block and its text keep their rules.
 #![tactic(auto)]
+
 ghost use Rattle.std.specs.Prelude.{◌≡◌};
 ghost use Rattle.host_rules.specs.Actions.{target_sent, state_sent};
 ghost use Rattle.actions.specs.Actions.{target_for};

@@ -1,5 +1,6 @@
 // The writer of the actions that a host sends on the serial lead.
 #![tactic(auto)]
+
 ghost use Rattle.std.specs.Prelude.{◌≤◌, ◌∷◌, length};
 ghost use Rattle.serial_rules.specs.Escape.{escape, escaped};
 ghost use Rattle.fields.specs.Promise.{Encoded};

@@ -1,5 +1,6 @@
 // What the marks of the inward stream mean, and how the bytes that an action has of its own end.
 #![tactic(auto)]
+
 ghost use Rattle.std.specs.Prelude.{◌≤◌, ◌≡◌};
 ghost use Rattle.serial_rules.specs.Link.{control, own_shape, own_most, meaning_of, may_start};
 ghost use Rattle.serial_rules.specs.Nest.{nest_of};

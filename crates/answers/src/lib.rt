@@ -1,5 +1,6 @@
 // What a link tells of a raw byte, and what an action tells when it has all its bytes.
 #![tactic(auto)]
+
 ghost use Rattle.std.specs.Prelude.{◌-◌, ◌≡◌};
 ghost use Rattle.answers.specs.Reports.{ends_of, failure_for, told_by};
 

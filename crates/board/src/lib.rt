@@ -1,5 +1,6 @@
 // The chip for callers in C and Rust: one access entry that is lent the record, the rest by value. Answers are numbers.
 #![tactic(auto)]
+
 ghost use Rattle.std.specs.Prelude.{◌≡◌};
 ghost use Rattle.chip_rules.specs.History.{line_value};
 ghost use Rattle.chip.specs.Record.{view, blank};

@@ -1,5 +1,6 @@
 // One data byte b of a request's body, against the bytes s, or n bytes, before it.
 #![tactic(auto)]
+
 ghost use Rattle.std.specs.Prelude.{◌≡◌};
 ghost use Rattle.serial_rules.specs.Body.{checked_turn, word_turn, find_turn, name_turn, ended, file_turn, body_turn, longest_body};
 ghost use Rattle.turns.specs.Turns.{turn_of};

@@ -1,5 +1,6 @@
 // The calls that a client sends, and what the request table says of each.
 #![tactic(auto)]
+
 ghost use Rattle.std.specs.Prelude.{◌≡◌, ◌&&◌};
 ghost use Rattle.serial_rules.specs.Call.{style_ok};
 ghost use Rattle.carrier.specs.Carriers.{carrier_of};

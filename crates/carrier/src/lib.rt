@@ -1,5 +1,6 @@
 // The two carriers of requests and replies.
 #![tactic(auto)]
+
 ghost use Rattle.std.specs.Prelude.{◌≡◌};
 ghost use Rattle.serial_rules.specs.Call.{style_ok};
 ghost use Rattle.carrier.specs.Carriers.{carrier_of, carrier_at, carrier_number};

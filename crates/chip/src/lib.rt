@@ -1,5 +1,6 @@
 // The Tube chip as a record by value: eight channels and six flags.
 #![tactic(auto)]
+
 ghost use Rattle.std.specs.Prelude.{◌+◌, ◌≤◌, ◌<◌, ◌≡◌, true, cond, ◌&&◌, leb, ltb, eqb};
 ghost use Rattle.chip_rules.specs.State.{held, fed, toward, chan, done, host, R1, R3};
 ghost use Rattle.chip_rules.specs.Rules.{decode, capacity, limit, room, n_flag, ready, status_of, bit, controlled, host_irq, parasite_irq, parasite_nmi, lines, take_oldest, append, on, step};

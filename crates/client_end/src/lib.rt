@@ -1,6 +1,7 @@
 // The exports of the client's end: requests written, a link with its begun calls and its loop, replies read and taken apart. Answers are numbers
 // and records flat.
 #![tactic(auto)]
+
 ghost use Rattle.std.specs.Prelude.{◌≡◌};
 ghost use Rattle.flat_request_writer.specs.Calls.{call_at, FlatRequestDone};
 ghost use Rattle.flat_kind.specs.Kinds.{kind_at};

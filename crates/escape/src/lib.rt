@@ -1,5 +1,6 @@
 // The escape layer of the serial protocol.
 #![tactic(auto)]
+
 ghost use Rattle.std.specs.Prelude.{◌≤◌, ◌≡◌, ◌||◌, eqb, ltb, length};
 ghost use Rattle.serial_rules.specs.Escape.{escape, piece_of, escapes};
 ghost use Rattle.escape.specs.Layer.{piece_for, is_escape};

@@ -1,5 +1,6 @@
 // The writer that every encoding is made with: a heading, then four fields of data bytes.
 #![tactic(auto)]
+
 ghost use Rattle.std.specs.Prelude.{◌≤◌, [], ◌∷◌, ◌++◌, length};
 ghost use Rattle.serial_rules.specs.Escape.{escape, escaped};
 ghost use Rattle.escape.specs.Put.{Put};

@@ -1,5 +1,6 @@
 // The chip's six flags P V M J I Q, bits 5 to 0 of one number; the bits above them stand for nothing.
 #![tactic(auto)]
+
 ghost use Rattle.std.specs.Prelude.{◌≤◌, ◌≡◌};
 ghost use Rattle.chip_rules.specs.Rules.{bit, weigh, low, switched, clears};
 ghost use Rattle.flags.specs.Flags.{flags_of, FlagsAfter};

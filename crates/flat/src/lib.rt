@@ -1,5 +1,6 @@
 // What the flat records for callers in C share: a flag kept as a number, what a writer gives, and a name found in a body.
 #![tactic(auto)]
+
 ghost use Rattle.std.specs.Prelude.{◌≡◌};
 ghost use Rattle.flat.specs.Flat.{flag_number, flat_written, unwritten_with, flat_name};
 

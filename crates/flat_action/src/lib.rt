@@ -1,5 +1,6 @@
 // The writer of inward actions with a number for the action and a flat record for its answer, so that it can cross to C.
 #![tactic(auto)]
+
 ghost use Rattle.std.specs.Prelude.{◌≡◌};
 ghost use Rattle.action_parts.specs.declared.Sent.TheVariants.{Address};
 ghost use Rattle.flat.specs.Flat.{unwritten_with};

@@ -1,5 +1,6 @@
 // The fields of a request as a flat record: numbers for the call and its own numbers, so that it can cross to C.
 #![tactic(auto)]
+
 ghost use Rattle.std.specs.Prelude.{◌≡◌};
 ghost use Rattle.flat_asked.specs.Asks.{asked_with, asked_as, FlatAskedDone};
 

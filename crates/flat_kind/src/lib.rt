@@ -1,6 +1,7 @@
 // The kinds of call by number, with total conversions, so that they can cross to C. The calls are numbered in the order of
 // `kind::CallKind`, from 0, as `tube_write_request` numbers them.
 #![tactic(auto)]
+
 ghost use Rattle.std.specs.Prelude.{◌≤◌, ◌≡◌};
 ghost use Rattle.flat_kind.specs.Kinds.{kind_at, kind_number, kind_out, FlatKindDone};
 

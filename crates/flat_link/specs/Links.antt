@@ -1,8 +1,7 @@
 -- What a begun call and a raw byte give, as flat records.
-use Rattle.std.specs.Prelude.{ℕ, ◌-◌, ◌≤◌, ◌<◌, ◌≡◌, true, false, List}
+use Rattle.std.specs.Prelude.{ℕ, ◌≤◌, ◌<◌, ◌≡◌, true, false, List}
 use Rattle.serial_rules.specs.Link as rules
 use Rattle.actions.specs.Actions.{target_for}
-use Rattle.actions.specs.declared.Action.TheVariants.{Error, Event, Address, Block}
 use Rattle.answers.specs.declared.Answer.{Answer}
 use Rattle.answers.specs.declared.Answer.TheVariants as variant
 use Rattle.link.specs.declared.Stepped.{Stepped}

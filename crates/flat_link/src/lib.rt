@@ -1,5 +1,6 @@
 // What is done with a link, over its flat record: a call begun, one raw byte, raw bytes in a loop, each with a flat result, so that it can cross to C.
 #![tactic(auto)]
+
 ghost use Rattle.std.specs.Prelude.{◌<◌, ◌≡◌, true};
 ghost use Rattle.kind.specs.Kinds.{reply_lent};
 ghost use Rattle.link.specs.View.{begun_of};

@@ -1,5 +1,6 @@
 // The request reader as a flat record: numbers for the enums and the bools, with total conversions, so that it can cross to C.
 #![tactic(auto)]
+
 ghost use Rattle.std.specs.Prelude.{◌≡◌};
 ghost use Rattle.flat_reader.specs.Readers.{phase_at, phase_number, reader_of, flat_of, flat_read, flat_plain, tags_ok};
 

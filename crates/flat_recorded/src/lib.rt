@@ -1,5 +1,6 @@
 // The reader of a recorded reply with a number for the call and a flat record for what it gives, so that it can cross to C.
 #![tactic(auto)]
+
 ghost use Rattle.std.specs.Prelude.{◌≡◌};
 ghost use Rattle.flat_kind.specs.Kinds.{kind_at};
 ghost use Rattle.flat_recorded.specs.Recordings.{recorded_with, flat_recorded, FlatRecordedDone};

@@ -1,5 +1,6 @@
 // The replies as flat records: numbers for the enums and the bools, with total conversions, so that they can cross to C.
 #![tactic(auto)]
+
 ghost use Rattle.std.specs.Prelude.{◌≡◌};
 ghost use Rattle.flat_kind.specs.Kinds.{kind_at};
 ghost use Rattle.flat_reply.specs.Replies.{reply_at, numbers_known, flat_given, given_with, flat_taken, FlatReplyDone, FlatReadDone, FlatTakeDone};

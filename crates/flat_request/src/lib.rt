@@ -1,5 +1,6 @@
 // The request reader on flat records: made, by the byte and over slices.
 #![tactic(auto)]
+
 ghost use Rattle.std.specs.Prelude.{◌<◌, ◌≡◌, true};
 ghost use Rattle.request_reader.specs.View.{body_room};
 ghost use Rattle.flat_reader.specs.Readers.{fresh_reader, FlatDone};

@@ -1,5 +1,6 @@
 // The request writer with numbers for the carrier and the call, and a flat record for its answer, so that it can cross to C.
 #![tactic(auto)]
+
 ghost use Rattle.std.specs.Prelude.{◌≡◌};
 ghost use Rattle.flat_request_writer.specs.Calls.{call_at, FlatRequestDone};
 

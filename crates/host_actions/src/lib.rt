@@ -1,5 +1,6 @@
 // The exports that write what a host sends beside replies: inward actions and load data. Answers are numbers and records flat.
 #![tactic(auto)]
+
 ghost use Rattle.flat_action.specs.Actions.{action_at, FlatActionDone, FlatDataDone};
 
 use flat::FlatWritten;

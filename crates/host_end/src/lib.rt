@@ -1,5 +1,6 @@
 // The exports of the host's end: requests read in slices and taken apart, replies written. Answers are numbers and records flat.
 #![tactic(auto)]
+
 ghost use Rattle.std.specs.Prelude.{◌≡◌};
 ghost use Rattle.strings.specs.Text.{name_of};
 ghost use Rattle.flat.specs.Flat.{flat_name};

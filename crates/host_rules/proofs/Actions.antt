@@ -2,20 +2,20 @@
 -- what its part is to the reply.
 use Prim.Native.Nat.{ℕ}
 use mathlib.Core.Path.{◌≡◌, refl, sym, ap, ◌∙◌}
-use mathlib.Core.Bool.{true, false, cond, not, ◌&&◌, ◌||◌, true≢false}
+use mathlib.Core.Bool.{true, false, cond, not, ◌&&◌, true≢false}
 use mathlib.Core.List.{List, [], ◌∷◌, ◌++◌, map, append-nil}
 use lib.Dec.{eqb, leb, ltb}
 use lib.ListN.{length}
 use Rattle.serial_rules.specs.Escape.{escaped}
 use Rattle.serial_rules.specs.Marks.{inward_class}
 use Rattle.serial_rules.specs.Call.{string_limit}
-use Rattle.serial_rules.specs.Link.{Transfer, setting, executing, opening, load, save, place, need_more, acted, failed, closes, Frame, idle_frame, Standing, holds, Met, met, meets, Link, live, link_at}
-use Rattle.serial_rules.specs.Session.{Input, raw, Told, report, tells, link_after, Sign, token, signs, says, stands_after, has_zero, some_open, open_after, open_in, good, all_good, inputs_of, inputs, sign_of, signs_of, fill, behind, inside}
+use Rattle.serial_rules.specs.Link.{Transfer, setting, executing, opening, load, save, need_more, acted, failed, closes, Frame, idle_frame, holds, Met, met, meets, Link, live, link_at}
+use Rattle.serial_rules.specs.Session.{Input, raw, Told, report, tells, link_after, Sign, token, signs, says, stands_after, has_zero, open_after, open_in, good, all_good, inputs_of, inputs, sign_of, signs_of, fill, behind, inside}
 use Rattle.serial_rules.proofs.Trip.{and_both}
 use Rattle.serial_rules.proofs.Session.{layers_told}
 use Rattle.serial_rules.proofs.Parts.{part_signs}
 use Rattle.serial_rules.proofs.Actions.{underway_said, parts_left, left_append}
-use Rattle.host_rules.specs.Actions.{Sent, failing, restarting, escape_state, event, address, control, ending, block_fits, has_text, sent_raw, sent_ok, part_of}
+use Rattle.host_rules.specs.Actions.{Sent, failing, restarting, escape_state, event, address, control, ending, block_fits, sent_raw, sent_ok, part_of}
 use Rattle.host_rules.specs.Streams.{may_act, closing, telling, ends_call, link_behind, ActionHeard}
 
 pub sent_raw_lem : (a : Sent) (b t : List ℕ) → sent_ok a b t ≡ true → map raw (sent_raw a b t) ≡ inputs_of (part_of a b t)

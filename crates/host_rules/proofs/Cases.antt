@@ -6,7 +6,7 @@ use Rattle.serial_rules.specs.Escape.{escaped}
 use Rattle.serial_rules.specs.Marks.{inward_class}
 use Rattle.serial_rules.specs.Reply.{shape_turn}
 use Rattle.serial_rules.specs.Link as link
-use Rattle.serial_rules.specs.Session.{report, has_zero, tells}
+use Rattle.serial_rules.specs.Session.{has_zero, tells}
 use Rattle.serial_rules.specs.Cases.{loads}
 use Rattle.host_rules.specs.Actions.{sent_raw, sent_ok, sent_number}
 use Rattle.host_rules.specs.Streams.{raw_of, stands}

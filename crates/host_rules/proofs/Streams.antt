@@ -12,14 +12,14 @@ use Rattle.serial_rules.specs.Body.{more, done}
 use Rattle.serial_rules.specs.Reply.{Kind, Shape, shape_of, shape_turn}
 use Rattle.serial_rules.specs.Link as link
 use Rattle.serial_rules.specs.Link.{Transfer, load, save, Report, need_more, character, reply, loaded, Token, datum, acted, failed, Frame, frame, idle_frame, waiting, halted, holds, Met, met, reply_turned, meets, live, link_at, fresh}
-use Rattle.serial_rules.specs.Session.{Input, raw, Told, report, tells, link_after, Sign, token, says, stands_after, Part, open_after, open_in, good, all_good, inputs_of, inputs, sign_of, signs_of, fill, behind, spread, inside, between}
+use Rattle.serial_rules.specs.Session.{Input, raw, Told, report, tells, link_after, Sign, token, says, stands_after, open_after, open_in, good, all_good, inputs_of, inputs, signs_of, fill, behind, spread, inside, between}
 use Rattle.serial_rules.proofs.Trip.{and_both, or_false}
 use Rattle.serial_rules.proofs.Session.{layers_told}
 use Rattle.serial_rules.proofs.Parts.{length_snoc}
 use Rattle.serial_rules.proofs.Ends.{Ends, last, next}
 use Rattle.serial_rules.proofs.Actions.{parts_said, parts_left}
 use Rattle.host_rules.specs.Actions.{Sent, failing, restarting, escape_state, event, address, control, ending, sent_ok, part_of}
-use Rattle.host_rules.specs.Streams.{Item, replying, loading, acting, part_for, item_raw, raw_of, sendable, all_sendable, may_act, may_stand, stands, replies, closes, reply_in, telling, sent_in, ends_call, fails_in, behind_error, reply_told, hears, sort_of, told_in, Heard}
+use Rattle.host_rules.specs.Streams.{Item, replying, loading, acting, part_for, item_raw, raw_of, sendable, all_sendable, may_act, may_stand, stands, closes, reply_in, telling, sent_in, ends_call, fails_in, behind_error, reply_told, hears, sort_of, told_in, Heard}
 use Rattle.host_rules.proofs.Actions.{sent_raw_lem, sent_good, sent_sign, sent_meets}
 
 -- a reply byte that is the last, and one that is not

@@ -1,5 +1,6 @@
 // The kinds of call, and how the reply of each ends.
 #![tactic(auto)]
+
 ghost use Rattle.std.specs.Prelude.{◌≡◌};
 ghost use Rattle.serial_rules.specs.Reply.{shape_of, form_of, block_in, kind_from, kind_in};
 ghost use Rattle.shapes.specs.Shapes.{shape_for};

@@ -1,6 +1,7 @@
 // The client's end of the serial lead: a link is idle or waits for the reply to one call, and actions and transfers may come inside it. What it may hold,
 // a call begun, and the records that a raw byte can leave; which of them it leaves is crate `link_step`.
 #![tactic(auto)]
+
 ghost use Rattle.std.specs.Prelude.{◌<◌, ◌≤◌, ◌≡◌, true};
 ghost use Rattle.kind.specs.Kinds.{reply_lent};
 ghost use Rattle.link.specs.View.{reply_room, own_room, nest_room, usable_of, own_lent, fresh, BeginDone, BeginNoneDone};

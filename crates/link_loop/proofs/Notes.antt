@@ -26,7 +26,7 @@ use Rattle.notes.proofs.Laws.{not_both, holds_nothing, logs_hold}
 use Rattle.notes.proofs.Counts.{content_in, data_counted, adds_append, adds_snoc, adds_quiet, notes_most}
 use Rattle.link_loop.specs.declared.Ran.{Ran}
 use Rattle.link_loop.specs.declared.Taken.{Taken}
-use Rattle.link_loop.specs.Run.{Runs, stop, Passed, none, next, last_of, lacks_room, RanDone, RunDone}
+use Rattle.link_loop.specs.Run.{Runs, stop, Passed, none, last_of, lacks_room, RanDone, RunDone}
 use Rattle.link_loop.specs.Parts.{ended_from, got_from, TakeDone, LoadPassDone}
 use Rattle.answers.specs.Reports.{ends_of}
 use Rattle.link_loop.proofs.Chains.{runs_more, runs_join, passed_more, passed_waits, passed_loads, tail_all}

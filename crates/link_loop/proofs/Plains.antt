@@ -20,13 +20,12 @@ use Rattle.kind.specs.Kinds.{kind_for}
 use Rattle.shapes.specs.Ahead.{ahead_of}
 use Rattle.kind.specs.declared.CallKind.{CallKind}
 use Rattle.shapes.proofs.Ahead.{ahead_more, ahead_fits}
-use Rattle.link.specs.declared.Wait.{Wait}
 use Rattle.link.specs.declared.Link.{Link}
 use Rattle.answers.specs.declared.Answer.TheVariants as variant
 use Rattle.link.specs.declared.Stepped.{Stepped}
 use Rattle.link.specs.View.{usable_of, view_of, StepDone}
 use Rattle.answers.specs.Reports.{report_of}
-use Rattle.link_loop.specs.Run.{Runs, stop, took, next}
+use Rattle.link_loop.specs.Run.{Runs, stop, took}
 use Rattle.link_loop.specs.Parts.{mid_reply}
 use Rattle.link_step.proofs.Steps.{reply_more, data_outside, at_data}
 

@@ -1,5 +1,6 @@
 // The loop over raw bytes: it passes over what is not a reply, and loses nothing that was reported.
 #![tactic(auto)]
+
 ghost use Rattle.std.specs.Prelude.{◌<◌, ◌≡◌, true, false, length};
 ghost use Rattle.kind.specs.Kinds.{reply_lent};
 ghost use Rattle.link.specs.View.{usable_of};

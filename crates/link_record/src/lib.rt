@@ -1,5 +1,6 @@
 // The link as a flat record: numbers for its enums and bools, with total conversions, so that it can cross to C.
 #![tactic(auto)]
+
 ghost use Rattle.std.specs.Prelude.{◌≡◌};
 ghost use Rattle.link_record.specs.Records.{wait_at, doing_at, link_of, tags_ok, fresh_link, wait_number, wait_out, doing_number, flags_number, flat_of};
 

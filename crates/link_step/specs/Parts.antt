@@ -8,7 +8,6 @@ use Rattle.actions.specs.declared.Target.{Target}
 use Rattle.actions.specs.declared.Target.TheVariants.{Set, Execute, Load, Save}
 use Rattle.actions.specs.declared.Action.{Action}
 use Rattle.actions.specs.declared.Action.TheVariants.{Error, Event, Address, Block}
-use Rattle.link.specs.declared.Doing.{Doing}
 use Rattle.link.specs.declared.Doing.TheVariants.{Quiet}
 use Rattle.link.specs.declared.Link.{Link}
 use Rattle.answers.specs.declared.Answer.{Answer}

@@ -1,5 +1,6 @@
 // One raw byte read by a link: what the escape layer and the actions make of it, and what that does to the reply that waits.
 #![tactic(auto)]
+
 ghost use Rattle.std.specs.Prelude.{◌<◌, ◌≤◌, ◌≡◌, true, length};
 ghost use Rattle.actions.specs.declared.Action.TheVariants.{Error, Address};
 ghost use Rattle.link.specs.declared.Wait.TheVariants.{Waiting};

@@ -1,5 +1,6 @@
 // The marks of the serial protocol, and what each may be.
 #![tactic(auto)]
+
 mod tables;
 
 ghost use Rattle.std.specs.Prelude.{◌≡◌};

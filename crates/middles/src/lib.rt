@@ -1,5 +1,6 @@
 // How many bytes of a request's body stand in the middle of a field, behind the bytes s, or n bytes, before them.
 #![tactic(auto)]
+
 ghost use Rattle.std.specs.Prelude.{◌-◌, ◌≡◌};
 ghost use Rattle.middles.specs.Ahead.{word_ahead, find_ahead, file_ahead, ahead_in};
 

@@ -1,6 +1,7 @@
 // Notes of what a reader of many bytes passed over, and the load data and control blocks among it, written into lent bytes: as far as these have
 // room, and counted where they have none, so that the same reader measures what it needs.
 #![tactic(auto)]
+
 ghost use Rattle.std.specs.Prelude.{◌+◌, ◌*◌, ◌-◌, ◌≤◌, ◌<◌, ◌≡◌, true, cond, [], ◌∷◌, length, take};
 ghost use Rattle.actions.specs.Actions.{target_for};
 ghost use Rattle.escape.specs.Put.{Put};

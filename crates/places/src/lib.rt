@@ -1,5 +1,6 @@
 // Where the fields of a body or of a reply lie: a byte by its place, the last byte, and a place that the bytes may not reach.
 #![tactic(auto)]
+
 ghost use Rattle.std.specs.Prelude.{◌-◌, min, ◌≡◌, take, drop};
 ghost use Rattle.serial_rules.specs.Fields.{at, last};
 ghost use Rattle.places.specs.Part.{PartDone};

@@ -1,5 +1,6 @@
 // The exports that play a script and write its text.
 #![tactic(auto)]
+
 ghost use Rattle.script.specs.Script.{PlayDone};
 ghost use Rattle.script_text.specs.Text.{TextDone};
 

@@ -1,5 +1,6 @@
 // The reader of a whole recorded reply, the raw bytes that came behind one call.
 #![tactic(auto)]
+
 ghost use Rattle.std.specs.Prelude.{◌≤◌, ◌<◌, ◌≡◌, ◌∷◌, length, take, drop};
 ghost use Rattle.escape.specs.Put.{over};
 ghost use Rattle.serial_rules.specs.Reply.{shape_of, longest};

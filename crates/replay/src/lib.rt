@@ -1,6 +1,7 @@
 // The export that reads a whole recorded reply, compiled apart from the others: here what notes are made of has one caller, and in the loop over slices
 // another one, so that it stays inlined in both.
 #![tactic(auto)]
+
 ghost use Rattle.flat_kind.specs.Kinds.{kind_at};
 ghost use Rattle.flat_recorded.specs.Recordings.{FlatRecordedDone};
 

@@ -1,7 +1,7 @@
 -- Whatever a host puts into a reply by the rules of host_rules, a client's link gives back: about the programs' own writers and link, over whole streams.
 use Prim.Native.Nat.{ℕ}
 use mathlib.Core.Path.{◌≡◌, refl, sym, ap, subst, ◌∙◌}
-use mathlib.Core.Bool.{Bool, true, false, ◌&&◌}
+use mathlib.Core.Bool.{true}
 use mathlib.Core.List.{List, [], ◌∷◌, ◌++◌, map, map-append, append_assoc}
 use lib.Dec.{ltb, leb}
 use lib.ListN.{length}
@@ -16,7 +16,7 @@ use Rattle.serial_rules.proofs.Ends.{Ends}
 use Rattle.serial_rules.proofs.Replies.{reply_whole, reply_none, reply_back, written_then_read}
 use Rattle.host_rules.specs.Actions as host
 use Rattle.host_rules.specs.Actions.{sent_raw, sent_ok, sent_number}
-use Rattle.host_rules.specs.Streams.{Item, replying, loading, acting, item_raw, raw_of, sendable, all_sendable, may_act, stands, closes, reply_in, ActionHeard, Heard}
+use Rattle.host_rules.specs.Streams.{Item, replying, loading, item_raw, raw_of, sendable, all_sendable, may_act, stands, closes, reply_in, ActionHeard, Heard}
 use Rattle.host_rules.proofs.Actions.{action_heard}
 use Rattle.host_rules.proofs.Streams.{reply_some, host_heard}
 use Rattle.fields.specs.declared.Written.{Written}

@@ -1,5 +1,6 @@
 // The replies that a host sends to the call that waits, and their fields in the bytes that were read.
 #![tactic(auto)]
+
 ghost use Rattle.std.specs.Prelude.{◌≡◌, [], drop};
 ghost use Rattle.serial_rules.specs.Fields.{at};
 ghost use Rattle.serial_rules.specs.Reply.{osword0, a_block, given, flag, reply_read};

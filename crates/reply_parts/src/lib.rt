@@ -1,5 +1,6 @@
 // What each reply is made of, and whether it fits the kind of the call that waits.
 #![tactic(auto)]
+
 ghost use Rattle.std.specs.Prelude.{◌≡◌, false, [], ◌∷◌};
 ghost use Rattle.serial_rules.specs.Reply.{carry_byte, ack_byte};
 ghost use Rattle.kind.specs.Kinds.{kind_for};

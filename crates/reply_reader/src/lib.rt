@@ -1,5 +1,6 @@
 // The parasite's end of R2: the reply to the call that waits on the parallel side, by the byte.
 #![tactic(auto)]
+
 ghost use Rattle.std.specs.Prelude.{◌≤◌, ◌≡◌, length};
 ghost use Rattle.serial_rules.specs.Reply.{longest};
 ghost use Rattle.shapes.specs.Shapes.{shape_for};

@@ -1,5 +1,6 @@
 // The writer of the replies that a host sends to the call that waits.
 #![tactic(auto)]
+
 ghost use Rattle.std.specs.Prelude.{◌≤◌, length};
 ghost use Rattle.carrier.specs.Carriers.{carrier_of};
 ghost use Rattle.room.specs.Carriers.{coded};

@@ -1,5 +1,5 @@
 -- What reading the fields of a request promises.
-use Rattle.std.specs.Prelude.{ℕ, ◌+◌, ◌≡◌, Bool, true, false, cond, not, List, eqb, length, take, drop}
+use Rattle.std.specs.Prelude.{ℕ, ◌+◌, ◌≡◌, true, false, cond, List, eqb, length, take, drop}
 use Rattle.serial_rules.specs.Marks.{is_code}
 use Rattle.serial_rules.specs.Call.{Call, has_string}
 use Rattle.serial_rules.specs.Fields as rules

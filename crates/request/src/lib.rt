@@ -1,5 +1,6 @@
 // The fields of a finished request, taken out of its body.
 #![tactic(auto)]
+
 ghost use Rattle.std.specs.Prelude.{◌≡◌};
 ghost use Rattle.places.specs.Part.{none};
 ghost use Rattle.request.specs.Promise.{IsRequestRead};

@@ -8,7 +8,6 @@ use lib.ListN.{length, take, drop, replicate, get_or, length-take, length-drop, 
 use lib.Seq.{take-suc, take-add}
 use Rattle.serial_rules.specs.Reader as rules
 use Rattle.serial_rules.proofs.Lent.{take_behind}
-
 use Rattle.request_reader.specs.declared.Reader.{Reader}
 use Rattle.request_reader.specs.declared.Answer.{Answer}
 use Rattle.request_reader.specs.declared.Answer.TheVariants.{More, Character, Request, Refused}

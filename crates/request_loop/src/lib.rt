@@ -1,5 +1,6 @@
 // The request reader over slices of raw bytes: step by step, and runs of plain bytes in the middle of a field at once.
 #![tactic(auto)]
+
 ghost use Rattle.std.specs.Prelude.{◌+◌, ◌≤◌, ◌<◌, ◌≡◌, true, false, length};
 ghost use Rattle.request_reader.specs.View.{body_room, inside_limits, keeps_limits};
 ghost use Rattle.request_reader.specs.declared.Phase.TheVariants.{Inside};

@@ -1,5 +1,6 @@
 // The stepwise reader of requests: one raw byte at a time, the body so far in bytes that the caller lends.
 #![tactic(auto)]
+
 ghost use Rattle.std.specs.Prelude.{◌≡◌, true, length};
 ghost use Rattle.escape.specs.Layer.{piece_for};
 ghost use Rattle.serial_rules.specs.Reader.{piece_outside, piece_inside, starts};

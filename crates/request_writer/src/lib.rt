@@ -1,5 +1,6 @@
 // The writer of the requests of the calls that a client sends.
 #![tactic(auto)]
+
 ghost use Rattle.std.specs.Prelude.{◌≡◌};
 ghost use Rattle.carrier.specs.Carriers.{carrier_of};
 ghost use Rattle.fields.specs.Promise.{Encoded};

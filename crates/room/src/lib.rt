@@ -1,5 +1,6 @@
 // Whether a heading and fields of data bytes fit into so many raw bytes.
 #![tactic(auto)]
+
 ghost use Rattle.std.specs.Prelude.{◌≡◌, ◌++◌, leb, length};
 ghost use Rattle.room.specs.Carriers.{coded, added_on, parts_raw};
 ghost use Rattle.room.specs.Room.{left_of};

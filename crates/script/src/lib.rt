@@ -1,5 +1,6 @@
 // Plays a script of accesses: records of three bytes, and three result bytes for each.
 #![tactic(auto)]
+
 ghost use Rattle.std.specs.Prelude.{◌*◌, ◌≤◌, length};
 ghost use Rattle.script.specs.Script.{event_of, StepDone, RecordsDone, PlayDone};
 

@@ -1,5 +1,6 @@
 // Where the player of a script stops, and what it answers there.
 #![tactic(auto)]
+
 ghost use Rattle.std.specs.Prelude.{◌+◌, ◌*◌, ◌≤◌, ◌<◌, ◌≡◌};
 ghost use Rattle.script_end.specs.Ending.{playable, ending};
 

@@ -1,5 +1,6 @@
 // Whether the text of a played script fits into so many bytes.
 #![tactic(auto)]
+
 ghost use Rattle.std.specs.Prelude.{◌+◌, ◌*◌, ◌≤◌, ◌≡◌, ◌&&◌, leb, length};
 ghost use Rattle.script_lines.specs.Text.{line_of, lines_of, end_of, text_of};
 ghost use Rattle.script_lines.specs.Fields.{Counted};

@@ -1,5 +1,6 @@
 // The text of a played script: a line for each record, and the last line.
 #![tactic(auto)]
+
 ghost use Rattle.std.specs.Prelude.{◌+◌, ◌*◌, ◌≤◌, [], ◌∷◌, length};
 ghost use Rattle.script_lines.specs.Text.{digits_of, line_of, lines_of, end_of};
 ghost use Rattle.script_lines.specs.Fields.{end_word, field_of};

@@ -7,7 +7,7 @@ use Rattle.serial_rules.specs.Marks.{inward_class, end_mark}
 use mathlib.Core.List.{List, [], ◌∷◌, ◌++◌, append_assoc}
 use native.Mathlib.Omega.{arith}
 use Rattle.serial_rules.specs.Link.{Transfer, load, save, place, opened, closes, need_more, underway, Frame, idle_frame, Standing, halted, holds, meets, Link, stopped, live, link_at, fresh, failure}
-use Rattle.serial_rules.specs.Session.{Input, Told, report, told_by, next_by, tells, link_after, Sign, token, signs, layer_after, said_by, stands_by, says, stands_after, movers, woven, Part, byte, begun, state, event, address, block, ending, error, open_after, open_in, good, all_good, inputs_of, inputs, sign_of, signs_of, fill, behind, spread, outside, without_actions, inside, between, ActionsPass, ErrorEnds}
+use Rattle.serial_rules.specs.Session.{Input, Told, report, told_by, next_by, tells, link_after, Sign, token, signs, layer_after, said_by, stands_by, says, stands_after, movers, woven, Part, byte, begun, state, event, address, block, ending, error, open_after, open_in, good, all_good, inputs_of, inputs, sign_of, signs_of, fill, behind, spread, without_actions, inside, between, ActionsPass, ErrorEnds}
 use Rattle.serial_rules.proofs.Trip.{and_both}
 use Rattle.serial_rules.proofs.Session.{layers_told, layers_after, halted_stays, movers_move, weave}
 use Rattle.serial_rules.proofs.Parts.{part_signs, part_after}

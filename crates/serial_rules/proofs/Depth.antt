@@ -1,8 +1,8 @@
 -- At most four transfers are open after any inputs, and none where a reply is reported: each piece of a stream keeps a link within its limits.
 use Prim.Native.Nat.{ℕ, ◌+◌, ◌/◌, ◌≤◌, ◌<◌}
-use mathlib.Core.Path.{◌≡◌, refl, sym, ap, subst, ◌∙◌}
+use mathlib.Core.Path.{◌≡◌, refl}
 use mathlib.Core.Bool.{Bool, true, false, cond, not, ◌&&◌}
-use mathlib.Core.List.{List, [], ◌∷◌, ◌++◌}
+use mathlib.Core.List.{List, [], ◌∷◌}
 use native.Mathlib.Omega.{arith}
 use lib.Dec.{eqb, ltb}
 use lib.ListN.{length}
@@ -11,7 +11,7 @@ use Rattle.serial_rules.specs.Escape.{escape, Piece, pending, data_byte, mark, p
 use Rattle.serial_rules.specs.Marks.{inward_class, not_carried, error_mark, escape_mark, event_mark, address_mark, block_mark, end_mark, execute_mark, load_mark, save_mark}
 use Rattle.serial_rules.specs.Body.{Turn, more, done, refused}
 use Rattle.serial_rules.specs.Reply.{shape_turn}
-use Rattle.serial_rules.specs.Link.{Transfer, load, save, setting, executing, opening, Report, need_more, reply, refusal, Action, failing, signal, place, control, own_shape, own_most, Meaning, unknown, end, starts, meaning_of, Doing, none, own, Layer, Token, underway, datum, acted, failed, bad, opens, Seen, seen, layer, finish, opened, own_byte, may_start, mark_outside, piece_seen, look, Frame, Standing, halted, holds, meets, Link, stopped, live, fresh, link_at, step, enters, begin}
+use Rattle.serial_rules.specs.Link.{Transfer, load, save, setting, executing, opening, need_more, reply, refusal, Action, failing, signal, place, control, own_shape, own_most, Meaning, unknown, end, starts, meaning_of, Doing, none, own, Layer, Token, underway, datum, acted, failed, bad, opens, Seen, seen, layer, finish, opened, own_byte, may_start, mark_outside, piece_seen, look, Standing, halted, holds, meets, Link, stopped, live, fresh, link_at, step, begin}
 use Rattle.serial_rules.specs.Session.{Input, raw, call, next_by, link_after, OwnWithin, LayerWithin, Within, stack_in}
 use Rattle.serial_rules.proofs.Shapes.{choice, more_fits}
 use Rattle.serial_rules.proofs.Parts.{length_snoc}

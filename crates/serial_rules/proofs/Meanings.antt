@@ -1,6 +1,6 @@
 -- What a mark is, by its class.
 use Prim.Native.Nat.{ℕ}
-use mathlib.Core.Path.{◌≡◌, refl}
+use mathlib.Core.Path.{◌≡◌}
 use borrow.Author.Tests.{ne_eqb}
 use Rattle.serial_rules.specs.Marks.{bit, inward_class, error_mark, escape_mark, event_mark, address_mark, block_mark, end_mark, execute_mark, load_mark, save_mark}
 use Rattle.serial_rules.specs.Link.{load, save, Target, setting, executing, opening, failing, signal, place, control, Meaning, unknown, end, starts, meaning_of}

@@ -1,5 +1,5 @@
 -- The open transfers as one number: one more is opened, the innermost is closed, how many there are, and the number back.
-use Prim.Native.Nat.{ℕ, zero, suc, ◌+◌, ◌*◌, ◌-◌, ◌/◌, ◌%◌, ◌≤◌, ◌<◌}
+use Prim.Native.Nat.{ℕ, suc, ◌+◌, ◌*◌, ◌-◌, ◌/◌, ◌%◌, ◌≤◌, ◌<◌}
 use mathlib.Core.Path.{◌≡◌, refl, sym, ap, ◌∙◌}
 use mathlib.Core.Bool.{Bool, true, false, cond}
 use mathlib.Core.List.{List, [], ◌∷◌}
@@ -9,7 +9,6 @@ use lib.ListN.{length}
 use borrow.Author.Tests.{eq-eqb, ne_eqb, eqb-true, eqb-false, lt-ltb, le-ltb}
 use Rattle.serial_rules.specs.Link.{Transfer, load, save, deepest}
 use Rattle.serial_rules.specs.Nest.{levels, nest_of}
-use Rattle.serial_rules.proofs.Shapes.{choice}
 
 -- one level more changes nothing where the number is small enough
 same_none : (n : ℕ) → n ≤ 0 → levels 0 n ≡ levels 1 n

@@ -9,7 +9,7 @@ use lib.ListN.{length, length-append}
 use borrow.Author.Tests.{ne_eqb, eqb-true, leb-true, not-true}
 use Rattle.serial_rules.specs.Escape.{escape, escaped}
 use Rattle.serial_rules.specs.Body.{more, done}
-use Rattle.serial_rules.specs.Marks.{bit, inward_class, error_mark, escape_mark, event_mark, address_mark, block_mark, end_mark, execute_mark, load_mark, save_mark}
+use Rattle.serial_rules.specs.Marks.{bit, inward_class, error_mark, escape_mark, event_mark, block_mark, end_mark}
 use Rattle.serial_rules.specs.Reply.{text, shape_turn}
 use Rattle.serial_rules.specs.Link as report
 use Rattle.serial_rules.specs.Link.{Transfer, load, save, Target, setting, executing, opening, Action, failing, signal, place, control, own_shape, Meaning, unknown, end, starts, meaning_of, Doing, none, own, layer, Token, underway, acted, failed, Seen, seen, failure_of, failure, finish, opened, own_byte, innermost, data_seen, closes, opens, may_start, mark_outside, look}

@@ -1,22 +1,21 @@
 -- A reader that started fresh: what it finishes on any stream of bytes is a request whose fields keep their rules, and writing them
 -- gives the bytes that it read.
-use Prim.Native.Nat.{ℕ, zero, suc, ◌+◌, ◌/◌, ◌%◌, ◌≤◌}
+use Prim.Native.Nat.{ℕ, zero, suc, ◌≤◌}
 use mathlib.Core.Path.{◌≡◌, refl, subst}
-use mathlib.Core.Bool.{Bool, true, false, cond, not}
+use mathlib.Core.Bool.{Bool, true, false, cond}
 use mathlib.Core.List.{List, [], ◌∷◌, ◌++◌}
 use native.Mathlib.Omega.{arith}
 use lib.Dec.{eqb}
 use lib.ListN.{get_or}
-use borrow.Author.Tests.{eqb-false, le-leb, eq-eqb, not-true}
 use Rattle.serial_rules.specs.Escape.{escape, Piece, pending, data_byte, mark, piece_of}
-use Rattle.serial_rules.specs.Marks.{bit, is_code, style_of, code_in, starts_request}
+use Rattle.serial_rules.specs.Marks.{style_of, code_in}
 use Rattle.serial_rules.specs.Call.{code_of, body_of, has_return, call_ok, Carrier, serial, parallel, style_ok, encoding_of}
 use Rattle.serial_rules.specs.Body.{Turn, more, done, refused, body_turn}
 use Rattle.serial_rules.specs.Fields.{fields_of}
 use Rattle.serial_rules.specs.Reader.{Reader, stopped, outside, inside, Answer, need_more, character, request, refusal, Step, gives, piece_outside, piece_inside, starts, begun, outside_step, turned, inside_step, step}
 use Rattle.serial_rules.specs.Stream.{reader_after, raw_of}
 use Rattle.serial_rules.proofs.Limits.{starts_style}
-use Rattle.serial_rules.proofs.Trip.{Goes, goes_append, All, all_snoc, and_both}
+use Rattle.serial_rules.proofs.Trip.{Goes, goes_append, All, all_snoc}
 use Rattle.serial_rules.proofs.Finished.{RequestRewritten, rewritten}
 
 abbrev Byte : ℕ → Type 0

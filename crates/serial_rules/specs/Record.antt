@@ -2,7 +2,7 @@
 -- "from a fresh link with the call begun", up to "where the call ends, a byte is refused or the recording runs out".
 use Rattle.std.specs.Prelude.{ℕ, suc, Bool, true, false, cond, List, [], ◌∷◌, ◌++◌}
 use Rattle.serial_rules.specs.Reply.{Kind}
-use Rattle.serial_rules.specs.Link.{Report, need_more, character, reply, escape_state, event, address, block, loaded, ended, error, restart, refusal, Link, fresh, step, Begun, begun, complete, denied, Start, begin}
+use Rattle.serial_rules.specs.Link.{Report, need_more, character, reply, escape_state, event, address, block, loaded, ended, error, restart, refusal, Link, fresh, step, Begun, begun, complete, denied, begin}
 
 -- the reports that a reader of many bytes passes over; a finished reply, an error or restart and a refusal end it
 unfoldable pub passes : Report → Bool

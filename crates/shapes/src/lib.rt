@@ -1,5 +1,6 @@
 // How bytes that belong together end: one byte against the number of bytes before it, and how many need no such look.
 #![tactic(auto)]
+
 ghost use Rattle.std.specs.Prelude.{◌+◌, ◌-◌, ◌≤◌, ◌<◌, ◌≡◌};
 ghost use Rattle.serial_rules.specs.Body.{fixed_turn};
 ghost use Rattle.serial_rules.specs.Reply.{line, text, shape_turn, longest};

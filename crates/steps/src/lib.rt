@@ -1,6 +1,7 @@
 // The exports that read one raw byte, compiled apart from the others: here each step has one caller, and in those over slices another one, so
 // that it stays inlined in both.
 #![tactic(auto)]
+
 ghost use Rattle.flat_reader.specs.Readers.{FlatDone};
 ghost use Rattle.flat_link.specs.Links.{FlatStepDone};
 

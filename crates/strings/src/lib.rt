@@ -1,5 +1,6 @@
 // The strings of the protocol.
 #![tactic(auto)]
+
 ghost use Rattle.std.specs.Prelude.{◌≡◌, ◌||◌, eqb};
 ghost use Rattle.serial_rules.specs.Call.{has_return};
 ghost use Rattle.serial_rules.specs.Session.{has_zero};

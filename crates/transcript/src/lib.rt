@@ -1,5 +1,6 @@
 // The whole text that a script gives: played and written in one.
 #![tactic(auto)]
+
 ghost use Rattle.transcript.specs.Transcript.{TranscriptDone};
 
 use chip::Chip;

@@ -1,6 +1,7 @@
 // The actions and block transfers of a recording, the raw bytes that came behind one call. The body of a transfer calls the action reader, and the
 // action reader calls the body of the transfer that an action opens: what remains of the recording falls at each call.
 #![tactic(auto)]
+
 ghost use Rattle.std.specs.Prelude.{◌≤◌, min, ◌≡◌, length};
 ghost use Rattle.serial_rules.specs.Link.{end, meaning_of};
 ghost use Rattle.transfers.specs.Parts.{halted_at, going_at, is_end, BodyDone, ActDone, LoadDone};

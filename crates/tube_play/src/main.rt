@@ -1,5 +1,6 @@
 // Plays the script of standard input on a fresh chip and writes its text to standard output.
 #![tactic(auto)]
+
 ghost use Rattle.std.specs.Prelude.{◌≤◌, IfOk, length};
 
 use chip::Chip;

@@ -1,5 +1,6 @@
 // One byte of bytes that belong together, against the number n of bytes before it; and runs of bytes that need no such look.
 #![tactic(auto)]
+
 ghost use Rattle.std.specs.Prelude.{◌≡◌};
 ghost use Rattle.serial_rules.specs.Body.{fixed_turn, string_turn};
 ghost use Rattle.turns.specs.Turns.{turn_of};

@@ -1,5 +1,6 @@
 // A u64 as eight bytes, digit by digit of base 256, so that a change of one byte stays in a register.
 #![tactic(auto)]
+
 ghost use Rattle.std.specs.Prelude.{◌<◌, ◌≡◌};
 ghost use Rattle.word.specs.Word.{power, digit, Replaced, Slid};
 

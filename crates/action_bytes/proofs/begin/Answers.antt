@@ -2,7 +2,6 @@
 use Rattle.action_bytes.proofs.Parts.{unknown_begins, state_begins, end_begins}
 use Rattle.action_bytes.specs.Parts.{Known}
 use mathlib.Core.Path.{subst}
-use borrow.Author.Rules.{rules}
 use Rattle.action_bytes.proofs.begin.Goals as goal
 
 pub start-requires : goal.start-requires

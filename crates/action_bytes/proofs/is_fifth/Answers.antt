@@ -1,5 +1,4 @@
 -- The tests are those of the definition.
-use borrow.Author.Rules.{rules}
 use Rattle.action_bytes.proofs.is_fifth.Goals as goal
 
 pub returns-then-opens_transfer : goal.returns-then-opens_transfer

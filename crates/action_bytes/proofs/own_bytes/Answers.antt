@@ -1,13 +1,11 @@
 -- The own bytes so far stand in the lent bytes; what remains falls at each one.
-use Prim.Native.Nat.{◌-◌}
 use native.Mathlib.Omega.{arith}
 use mathlib.Core.Path.{sym, ap, ◌∙◌}
-use lib.ListN.{length, length-set}
-use borrow.Author.Rules.{rules}
+use lib.ListN.{length-set}
 use Rattle.escape.specs.Units.{unit_for}
 use Rattle.escape.proofs.Units.{data_near}
 use Rattle.shapes.proofs.Turned.{turned}
-use Rattle.action_bytes.proofs.Parts.{Owning, own_starts, own_below, own_ran_out, own_marked, own_is_refused, own_is_done, own_goes_on}
+use Rattle.action_bytes.proofs.Parts.{own_starts, own_below, own_ran_out, own_marked, own_is_refused, own_is_done, own_goes_on}
 use Rattle.action_bytes.proofs.own_bytes.Goals as goal
 
 pub loop-next-init : goal.loop-next-init

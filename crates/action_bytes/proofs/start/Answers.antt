@@ -2,7 +2,6 @@
 use Rattle.action_bytes.specs.Parts.{OwnDone}
 use Rattle.action_bytes.proofs.Parts.{fifth_starts, halted_starts, whole_starts}
 use mathlib.Core.Path.{sym, subst, ◌∙◌}
-use borrow.Author.Rules.{rules}
 use Rattle.action_bytes.proofs.start.Goals as goal
 
 pub returns-then-is_fifth : goal.returns-then-is_fifth

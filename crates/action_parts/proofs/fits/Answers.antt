@@ -1,5 +1,4 @@
 -- The tests are those of the rule, one behind the other.
-use borrow.Author.Rules.{rules}
 use mathlib.Core.Path.{ap}
 use mathlib.Core.Bool.{not}
 use Rattle.action_parts.proofs.Laws.{block_unfit, text_judged, text_none}

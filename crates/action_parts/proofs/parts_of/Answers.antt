@@ -1,5 +1,4 @@
 -- In each arm the action is known, and what the rules say of it computes to the parts.
-use borrow.Author.Rules.{rules}
 use Rattle.action_parts.specs.Parts.{parts_of}
 use Rattle.action_parts.proofs.parts_of.Goals as goal
 

@@ -1,5 +1,4 @@
 -- The escape and the mark are the heading; the numbers before, block, text and the byte behind a text are the four fields.
-use borrow.Author.Rules.{rules}
 use mathlib.Core.Path.{sym}
 use lib.Seq.{length-take-le}
 use Rattle.room.specs.Carriers.{coded}

@@ -1,5 +1,4 @@
 -- The checks come in the order of their answers; after them the parts, joined, are the bytes of the action.
-use borrow.Author.Rules.{rules}
 use borrow.Author.Tests.{lt-ltb, le-ltb}
 use Rattle.action_parts.specs.Parts.{sent_for}
 use Rattle.action_writer.proofs.Laws.{too_long, bad_field, room, wrote}

@@ -1,5 +1,4 @@
 -- Each answer ends the loop or does not, whatever bytes are lent.
-use borrow.Author.Rules.{rules}
 use Rattle.serial_rules.specs.Record.{passes}
 use Rattle.answers.proofs.ends.Goals as goal
 

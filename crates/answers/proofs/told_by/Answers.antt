@@ -1,5 +1,4 @@
 -- Each arm is what that action tells.
-use borrow.Author.Rules.{rules}
 use Rattle.answers.proofs.told_by.Goals as goal
 
 pub returns-in-Error : goal.returns-in-Error

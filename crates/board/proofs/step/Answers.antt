@@ -1,5 +1,4 @@
 -- The access is the chip's own, and its answer becomes its number.
-use borrow.Author.Rules.{rules}
 use Rattle.board.proofs.step.Goals as goal
 
 pub returns : goal.returns

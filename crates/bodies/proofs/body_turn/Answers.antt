@@ -1,7 +1,6 @@
 -- Each arm is the rule at that arm's code; a code of no arm fails all the rule's tests.
 use Rattle.serial_rules.specs.Body.{body_turn}
 use borrow.Author.Tests.{ne_eqb}
-use borrow.Author.Rules.{rules}
 use Rattle.bodies.proofs.body_turn.Goals as goal
 
 pub returns-in-2 : goal.returns-in-2

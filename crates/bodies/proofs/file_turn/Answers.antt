@@ -3,7 +3,6 @@ use Rattle.serial_rules.specs.Body.{ended}
 use Rattle.serial_rules.proofs.Lent.{take_behind}
 use mathlib.Core.Path.{sym, ap, ◌∙◌}
 use borrow.Author.Tests.{le-ltb, lt-ltb}
-use borrow.Author.Rules.{rules}
 use Rattle.bodies.proofs.file_turn.Goals as goal
 
 pub returns-then-n-lt-FILE_BLOCK : goal.returns-then-n-lt-FILE_BLOCK

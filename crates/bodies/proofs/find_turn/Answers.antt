@@ -3,7 +3,6 @@ use Rattle.bodies.proofs.Bytes.{find_none, find_rest}
 use mathlib.Core.Path.{◌∙◌}
 use native.Mathlib.Omega.{arith}
 use borrow.Author.Tests.{eq-eqb, ne_eqb}
-use borrow.Author.Rules.{rules}
 use Rattle.bodies.proofs.find_turn.Goals as goal
 
 pub returns-then-n-eq0 : goal.returns-then-n-eq0

@@ -2,7 +2,6 @@
 use Rattle.bodies.proofs.Bytes.{ended_none, ended_last}
 use mathlib.Core.Path.{sym}
 use native.Mathlib.Omega.{arith}
-use borrow.Author.Rules.{rules}
 use Rattle.bodies.proofs.name_ended.Goals as goal
 
 pub returns-then-n-eq0 : goal.returns-then-n-eq0

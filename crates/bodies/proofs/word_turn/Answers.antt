@@ -4,7 +4,6 @@ use Rattle.bodies.proofs.Bytes.{word_none, word_one, word_rest}
 use mathlib.Core.Path.{sym, ◌∙◌}
 use native.Mathlib.Omega.{arith}
 use borrow.Author.Tests.{eq-eqb, ne_eqb}
-use borrow.Author.Rules.{rules}
 use Rattle.bodies.proofs.word_turn.Goals as goal
 
 pub returns-then-b-eq0 : goal.returns-then-b-eq0

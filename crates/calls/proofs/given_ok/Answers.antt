@@ -1,5 +1,4 @@
 -- Each test is the rule's next part; the last two are the two kinds of calls, with a string and without.
-use borrow.Author.Rules.{rules}
 use borrow.Author.Tests.{not-true, not-false}
 use mathlib.Core.Path.{sym, ◌∙◌}
 use Rattle.calls.proofs.Rows.{style_broken, number_broken, block_broken, string_given, string_missing}

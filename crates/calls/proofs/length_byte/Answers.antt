@@ -1,5 +1,4 @@
 -- A length up to 255 is a byte.
-use borrow.Author.Rules.{rules}
 use borrow.Author.Tests.{le-leb, lt-leb}
 use Rattle.calls.proofs.length_byte.Goals as goal
 

@@ -1,5 +1,4 @@
 -- In each arm the call is known, and what the rules say of it computes to the cells.
-use borrow.Author.Rules.{rules}
 use Rattle.serial_rules.specs.Call.{code_of}
 use Rattle.calls.specs.Rows.{row_of}
 use Rattle.calls.proofs.row_of.Goals as goal

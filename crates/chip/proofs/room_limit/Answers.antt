@@ -4,7 +4,6 @@ use Rattle.chip_rules.specs.State.{R3}
 use Prim.Native.Nat.{◌/◌}
 use lib.Dec.{eqb}
 use mathlib.Core.Bool.{and-false, and-true}
-use borrow.Author.Rules.{rules}
 use Rattle.chip.proofs.room_limit.Goals as goal
 
 pub returns-then-has_bit : goal.returns-then-has_bit

@@ -1,10 +1,7 @@
 -- Turn i has counted the escape bytes among the first i, in whole pieces; with those from i on they are all.
-use borrow.Author.Rules.{rules}
 use native.Mathlib.Omega.{arith}
-use Prim.Native.Nat.{◌+◌, ◌-◌, ◌≤◌}
-use mathlib.Core.Path.{◌≡◌}
-use lib.ListN.{length, drop, length-take, length-drop}
-use Rattle.serial_rules.specs.Escape.{escapes}
+use Prim.Native.Nat.{◌+◌}
+use lib.ListN.{length, length-take, length-drop}
 use Rattle.escape.proofs.Laws.{escapes_piece, escapes_none}
 use Rattle.escape.proofs.count_escapes.Goals as goal
 

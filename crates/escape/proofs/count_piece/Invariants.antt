@@ -1,11 +1,8 @@
 -- Turn i has counted the escape bytes among the first i; with those from i on they are all.
-use borrow.Author.Rules.{rules}
-use native.Mathlib.Omega.{arith}
 use Prim.Native.Nat.{◌+◌, ◌-◌, ◌≤◌}
 use mathlib.Core.Path.{◌≡◌}
 use lib.ListN.{length, drop}
 use Rattle.serial_rules.specs.Escape.{escapes}
-use Rattle.escape.proofs.Laws.{escapes_more, escapes_none}
 use Rattle.escape.proofs.count_piece.Given as goal
 
 abbrev pub invariant-loop-i : goal.invariant-loop-i

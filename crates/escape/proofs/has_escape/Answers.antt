@@ -1,11 +1,6 @@
 -- Turn i has found whether an escape byte stands among the first i bytes; with those from i on they are all.
 use borrow.Author.Rules.{rules}
-use Prim.Native.Nat.{◌-◌, ◌≤◌}
-use mathlib.Core.Path.{◌≡◌, refl}
-use mathlib.Core.Bool.{◌||◌}
-use lib.Dec.{ltb}
-use lib.ListN.{length, drop}
-use Rattle.serial_rules.specs.Escape.{escapes}
+use mathlib.Core.Path.{refl}
 use Rattle.escape.proofs.Laws.{escape_more, escape_all}
 use Rattle.escape.proofs.has_escape.Goals as goal
 

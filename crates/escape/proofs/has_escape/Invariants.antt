@@ -1,12 +1,10 @@
 -- Turn i has found whether an escape byte stands among the first i bytes; with those from i on they are all.
-use borrow.Author.Rules.{rules}
 use Prim.Native.Nat.{◌-◌, ◌≤◌}
-use mathlib.Core.Path.{◌≡◌, refl}
+use mathlib.Core.Path.{◌≡◌}
 use mathlib.Core.Bool.{◌||◌}
 use lib.Dec.{ltb}
 use lib.ListN.{length, drop}
 use Rattle.serial_rules.specs.Escape.{escapes}
-use Rattle.escape.proofs.Laws.{escape_more, escape_all}
 use Rattle.escape.proofs.has_escape.Given as goal
 
 abbrev pub invariant-loop-i : goal.invariant-loop-i

@@ -1,7 +1,6 @@
 -- One data byte or mark, as the escape layer reads it.
 use Rattle.escape.specs.Units.{unit_at}
 use borrow.Author.Tests.{lt-ltb, le-ltb, eq-eqb, ne_eqb}
-use borrow.Author.Rules.{rules}
 use Rattle.escape.proofs.unit_at.Goals as goal
 
 pub returns-then-second : goal.returns-then-second

@@ -1,5 +1,4 @@
 -- The byte goes to the first place, and where it is the escape to the second too.
-use borrow.Author.Rules.{rules}
 use native.Mathlib.Omega.{arith}
 use lib.ListN.{length-set}
 use Rattle.fields.proofs.Bytes.{one_length, put_one}

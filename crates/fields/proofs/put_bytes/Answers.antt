@@ -1,13 +1,11 @@
 -- Turn i has written the raw bytes of the first i data bytes; the tail has room for those of the next, since the whole fits.
 use borrow.Author.Rules.{rules}
-use Prim.Native.Nat.{◌-◌, ◌≤◌}
 use native.Mathlib.Omega.{arith}
 use mathlib.Core.Path.{sym, ap}
 use mathlib.Core.List.{[], ◌∷◌}
-use lib.ListN.{length, take, get_or}
+use lib.ListN.{get_or}
 use lib.Seq.{take_all}
 use Rattle.serial_rules.specs.Escape.{escaped}
-use Rattle.escape.specs.Put.{Put}
 use Rattle.escape.proofs.Laws.{put_none, put_length, put_as, put_tail, tail_room}
 use Rattle.fields.proofs.Bytes.{escaped_more, escaped_room}
 use Rattle.fields.proofs.put_bytes.Goals as goal

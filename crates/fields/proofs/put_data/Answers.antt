@@ -1,5 +1,4 @@
 -- The carrier tells how the data bytes are sent.
-use borrow.Author.Rules.{rules}
 use Rattle.room.specs.Carriers.{coded}
 use Rattle.fields.proofs.put_data.Goals as goal
 

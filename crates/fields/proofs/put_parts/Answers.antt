@@ -1,6 +1,5 @@
 -- Two writes, the fields into the tail that the heading leaves, are one, and the whole has room.
 use native.Mathlib.Omega.{arith}
-use borrow.Author.Rules.{rules}
 use lib.ListN.{length-append, length-take, length-drop}
 use Rattle.escape.proofs.Laws.{put_length, put_tail}
 use Rattle.fields.proofs.put_parts.Goals as goal

@@ -1,11 +1,7 @@
 -- Turn i has written the first i bytes.
-use borrow.Author.Rules.{rules}
-use native.Mathlib.Omega.{arith}
 use Prim.Native.Nat.{◌-◌, ◌≤◌}
 use lib.ListN.{length, take}
-use lib.Seq.{take_all}
 use Rattle.escape.specs.Put.{Put}
-use Rattle.escape.proofs.Laws.{put_none, put_next, put_as, put_length}
 use Rattle.fields.proofs.put_plain.Given as goal
 
 abbrev pub invariant-loop-i : goal.invariant-loop-i

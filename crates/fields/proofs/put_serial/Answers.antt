@@ -1,6 +1,5 @@
 -- Where there is no escape byte, the raw bytes are the data bytes.
 use mathlib.Core.Path.{sym}
-use borrow.Author.Rules.{rules}
 use Rattle.escape.proofs.Laws.{put_as}
 use Rattle.fields.proofs.Laws.{escaped_plain}
 use Rattle.fields.proofs.put_serial.Goals as goal

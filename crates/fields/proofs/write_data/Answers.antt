@@ -1,7 +1,6 @@
 -- The raw bytes are as many as the data bytes and the escape bytes among them; the room is tested for both before the first byte is written.
 use mathlib.Core.Path.{sym, ◌∙◌}
 use native.Mathlib.Omega.{arith}
-use borrow.Author.Rules.{rules}
 use Rattle.serial_rules.proofs.Escape.{escaped_length, escaped_least}
 use Rattle.escape.proofs.Laws.{put_as}
 use Rattle.fields.proofs.Laws.{all_plain, encoded_done, encoded_none}

@@ -1,6 +1,5 @@
 -- The room is tested exactly before the first byte is written.
 use mathlib.Core.Path.{sym, ◌∙◌}
-use borrow.Author.Rules.{rules}
 use borrow.Author.Tests.{leb-true, leb-false}
 use Rattle.fields.proofs.Laws.{encoded_done, encoded_none}
 use Rattle.fields.proofs.write_fields.Goals as goal

@@ -1,5 +1,4 @@
 -- A flag whose bit is set becomes bit 7; any other keeps its own.
-use borrow.Author.Rules.{rules}
 use Rattle.flags.proofs.flag_after.Goals as goal
 
 pub returns-then-has_bit : goal.returns-then-has_bit

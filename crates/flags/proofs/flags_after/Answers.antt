@@ -1,6 +1,5 @@
 -- The six weights summed are the rules' flags, and what lies above them is kept.
 use Rattle.flags.proofs.Bits.{flags_after}
-use borrow.Author.Rules.{rules}
 use Rattle.flags.proofs.flags_after.Goals as goal
 
 pub returns : goal.returns

@@ -1,7 +1,6 @@
 -- The bit is the parity of the quotient; no bit has weight 0.
 use Rattle.flags.proofs.Bits.{no_weight}
 use mathlib.Core.Path.{sym}
-use borrow.Author.Rules.{rules}
 use Rattle.flags.proofs.has_bit.Goals as goal
 
 pub returns-then-w-eq0 : goal.returns-then-w-eq0

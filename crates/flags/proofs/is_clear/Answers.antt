@@ -1,6 +1,5 @@
 -- Both bits, tested in turn.
 use Rattle.chip_rules.specs.Rules.{clears}
-use borrow.Author.Rules.{rules}
 use Rattle.flags.proofs.is_clear.Goals as goal
 
 pub returns-then-has_bit : goal.returns-then-has_bit

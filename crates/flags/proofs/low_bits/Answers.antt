@@ -3,7 +3,6 @@ use Rattle.flags.proofs.Bits.{low_six}
 use Rattle.chip_rules.specs.Rules.{low}
 use mathlib.Core.Path.{refl, sym}
 use native.Mathlib.Omega.{arith}
-use borrow.Author.Rules.{rules}
 use borrow.Author.Tests.{eq-eqb, ne_eqb}
 use Rattle.flags.proofs.low_bits.Goals as goal
 

@@ -1,6 +1,5 @@
 -- A flag that is set keeps the number given where that one already says so.
 use borrow.Author.Tests.{eq-eqb, ne_eqb}
-use borrow.Author.Rules.{rules}
 use Rattle.flat.proofs.flag_number.Goals as goal
 
 pub returns-then-given-eq0 : goal.returns-then-given-eq0

@@ -1,5 +1,4 @@
 -- A name that is found has its length, a refusal its number.
-use borrow.Author.Rules.{rules}
 use Rattle.flat.proofs.flat_name.Goals as goal
 
 pub returns-in-Found : goal.returns-in-Found

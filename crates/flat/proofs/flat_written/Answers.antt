@@ -1,5 +1,4 @@
 -- Each answer has its own number.
-use borrow.Author.Rules.{rules}
 use Rattle.flat.proofs.flat_written.Goals as goal
 
 pub returns-in-Done : goal.returns-in-Done

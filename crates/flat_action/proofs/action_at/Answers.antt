@@ -1,5 +1,4 @@
 -- Each arm is the action of its number; a number of no arm fails all the tests.
-use borrow.Author.Rules.{rules}
 use borrow.Author.Tests.{ne_eqb}
 use Rattle.flat_action.specs.Actions.{action_at}
 use Rattle.flat_action.proofs.action_at.Goals as goal

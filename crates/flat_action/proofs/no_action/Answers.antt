@@ -1,5 +1,4 @@
 -- The test is that of the rule.
-use borrow.Author.Rules.{rules}
 use borrow.Author.Tests.{lt-ltb, le-ltb}
 use Rattle.flat_action.proofs.no_action.Goals as goal
 

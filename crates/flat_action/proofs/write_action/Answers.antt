@@ -1,6 +1,5 @@
 -- With an action of that number this is the writer; else the two refusals that come before the room, in their order.
 use mathlib.Core.Path.{sym, ◌∙◌}
-use borrow.Author.Rules.{rules}
 use Rattle.flat_action.proofs.Actions.{done, nothing}
 use Rattle.flat_action.proofs.write_action.Goals as goal
 

@@ -1,5 +1,4 @@
 -- Each call has its number and its own numbers.
-use borrow.Author.Rules.{rules}
 use Rattle.flat_asked.proofs.flat_asked.Goals as goal
 
 pub returns-in-Osrdch : goal.returns-in-Osrdch

@@ -1,5 +1,4 @@
 -- What was read of the request, in its flat form.
-use borrow.Author.Rules.{rules}
 use Rattle.flat_asked.proofs.read_request.Goals as goal
 
 pub returns-in-Fields : goal.returns-in-Fields

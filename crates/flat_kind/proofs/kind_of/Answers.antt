@@ -1,5 +1,4 @@
 -- What was found of the request, in its flat form.
-use borrow.Author.Rules.{rules}
 use Rattle.flat_kind.proofs.kind_of.Goals as goal
 
 pub returns-in-Known : goal.returns-in-Known

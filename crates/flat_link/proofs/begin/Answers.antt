@@ -1,7 +1,6 @@
 -- With the numbers in range this is a begun call of the link, flat, or one that is not carried; else it is refused with 7 and the record given.
 use Rattle.flat_link.proofs.Links.{begin_known, begin_no_call, begin_unknown}
 use mathlib.Core.Path.{sym, ◌∙◌}
-use borrow.Author.Rules.{rules}
 use Rattle.flat_link.proofs.begin.Goals as goal
 
 pub returns-then-call-le-LAST : goal.returns-then-call-le-LAST

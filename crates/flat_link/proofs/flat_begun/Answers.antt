@@ -1,5 +1,4 @@
 -- Each answer has its own kind.
-use borrow.Author.Rules.{rules}
 use Rattle.flat_link.proofs.flat_begun.Goals as goal
 
 pub returns-in-Waits : goal.returns-in-Waits

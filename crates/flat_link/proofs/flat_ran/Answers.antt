@@ -1,5 +1,4 @@
 -- The answer and the link of the loop, each flat.
-use borrow.Author.Rules.{rules}
 use Rattle.flat_link.proofs.flat_ran.Goals as goal
 
 pub returns : goal.returns

@@ -1,5 +1,4 @@
 -- The answer and the link of the call, each flat.
-use borrow.Author.Rules.{rules}
 use Rattle.flat_link.proofs.flat_started.Goals as goal
 
 pub returns : goal.returns

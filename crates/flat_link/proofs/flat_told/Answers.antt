@@ -1,5 +1,4 @@
 -- Each answer has its own kind and the values that it carries.
-use borrow.Author.Rules.{rules}
 use Rattle.flat_link.proofs.flat_told.Goals as goal
 
 pub returns-in-More : goal.returns-in-More

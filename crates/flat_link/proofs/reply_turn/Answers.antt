@@ -1,6 +1,5 @@
 -- The turn is that of the shape of the reply, where the record is within its limits.
 use Rattle.flat_link.proofs.Field.{turned, beyond}
-use borrow.Author.Rules.{rules}
 use Rattle.flat_link.proofs.reply_turn.Goals as goal
 
 pub returns-then-at-longest : goal.returns-then-at-longest

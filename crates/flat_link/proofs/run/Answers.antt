@@ -1,5 +1,4 @@
 -- With the numbers in range this is the loop of the link, flat; with one out of range nothing is touched.
-use borrow.Author.Rules.{rules}
 use mathlib.Core.Path.{sym, ◌∙◌}
 use Rattle.flat_link.proofs.Links.{ran_known, ran_unknown}
 use Rattle.flat_link.proofs.run.Goals as goal

@@ -1,5 +1,4 @@
 -- A byte of the reply, or any other: both promise a step.
-use borrow.Author.Rules.{rules}
 use Rattle.flat_link.proofs.step.Goals as goal
 
 pub step_reply-requires : goal.step_reply-requires

@@ -3,7 +3,6 @@ use native.Mathlib.Omega.{arith}
 use mathlib.Core.Path.{sym, ap, ◌∙◌}
 use Rattle.turns.specs.Turns.{turn_of}
 use Rattle.flat_link.proofs.Field.{goes_on, comes_to_end, reply_goes, reply_ends}
-use borrow.Author.Rules.{rules}
 use Rattle.flat_link.proofs.step_reply.Goals as goal
 
 pub bounds-lent-at : goal.bounds-lent-at

@@ -1,7 +1,6 @@
 -- With the numbers in range this is a step of the link, flat, with one out of range the refusal of a stopped one.
 use mathlib.Core.Path.{sym, ◌∙◌}
 use Rattle.flat_link.proofs.Links.{step_known, step_unknown}
-use borrow.Author.Rules.{rules}
 use Rattle.flat_link.proofs.step_unflattened.Goals as goal
 
 pub returns-then-has_tags : goal.returns-then-has_tags

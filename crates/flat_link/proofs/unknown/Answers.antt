@@ -1,5 +1,4 @@
 -- The tests are those of the definition.
-use borrow.Author.Rules.{rules}
 use borrow.Author.Tests.{eq-eqb, ne_eqb}
 use Rattle.flat_link.specs.Runs.{flat_unknown}
 use Rattle.flat_link.proofs.unknown.Goals as goal

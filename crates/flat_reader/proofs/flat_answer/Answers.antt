@@ -1,5 +1,4 @@
 -- The reader is flattened, and its answer is put beside it.
-use borrow.Author.Rules.{rules}
 use Rattle.flat_reader.proofs.flat_answer.Goals as goal
 
 pub returns : goal.returns

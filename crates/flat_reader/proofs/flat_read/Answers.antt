@@ -1,5 +1,4 @@
 -- Each answer has its own kind.
-use borrow.Author.Rules.{rules}
 use Rattle.flat_reader.proofs.flat_read.Goals as goal
 
 pub returns-in-More : goal.returns-in-More

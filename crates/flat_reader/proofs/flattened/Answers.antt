@@ -1,5 +1,4 @@
 -- Each field of the record has its number.
-use borrow.Author.Rules.{rules}
 use Rattle.flat_reader.proofs.flattened.Goals as goal
 
 pub returns : goal.returns

@@ -1,5 +1,4 @@
 -- Each number of the record has its field.
-use borrow.Author.Rules.{rules}
 use Rattle.flat_reader.proofs.unflattened.Goals as goal
 
 pub returns : goal.returns

@@ -1,5 +1,4 @@
 -- The flat result is that of the answer that it ends with.
-use borrow.Author.Rules.{rules}
 use Rattle.flat_recorded.proofs.flat_recorded.Goals as goal
 
 pub returns-in-More : goal.returns-in-More

@@ -1,5 +1,4 @@
 -- A call goes by its kind; a number that is none is refused before the first byte.
-use borrow.Author.Rules.{rules}
 use Rattle.flat_recorded.proofs.Recordings.{called, not_called_lem}
 use Rattle.flat_recorded.proofs.read_recorded.Goals as goal
 

@@ -1,5 +1,4 @@
 -- Each reply has its own number and the numbers that it carries.
-use borrow.Author.Rules.{rules}
 use Rattle.flat_reply.proofs.flat_given.Goals as goal
 
 pub returns-in-CarryA : goal.returns-in-CarryA

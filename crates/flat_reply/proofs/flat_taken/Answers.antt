@@ -1,5 +1,4 @@
 -- Each turn has its kind.
-use borrow.Author.Rules.{rules}
 use Rattle.flat_reply.proofs.flat_taken.Goals as goal
 
 pub returns-in-More : goal.returns-in-More

@@ -1,5 +1,4 @@
 -- The carry as a number, and the rest as given.
-use borrow.Author.Rules.{rules}
 use Rattle.flat_reply.proofs.numbered.Goals as goal
 
 pub returns : goal.returns

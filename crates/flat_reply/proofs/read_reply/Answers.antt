@@ -1,6 +1,5 @@
 -- With the call in range these are the fields read by its kind, flat; else the record that says nothing.
 use Rattle.flat_reply.proofs.Replies.{read_known, read_unknown}
-use borrow.Author.Rules.{rules}
 use Rattle.flat_reply.proofs.read_reply.Goals as goal
 
 pub returns-then-call-le-LAST : goal.returns-then-call-le-LAST

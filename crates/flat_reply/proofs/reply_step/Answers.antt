@@ -1,7 +1,6 @@
 -- A call that is none is refused first; any other goes by its kind.
 use mathlib.Core.Path.{refl}
 use Rattle.flat_reply.proofs.Replies.{take_none, take_known}
-use borrow.Author.Rules.{rules}
 use Rattle.flat_reply.proofs.reply_step.Goals as goal
 
 pub returns-then-call-gt-LAST : goal.returns-then-call-gt-LAST

@@ -2,7 +2,6 @@
 use mathlib.Core.Path.{sym, ◌∙◌}
 use borrow.Author.Tests.{lt-ltb, le-ltb}
 use Rattle.flat_reply.proofs.Replies.{none, done, unknown}
-use borrow.Author.Rules.{rules}
 use Rattle.flat_reply.proofs.write_reply.Goals as goal
 
 pub returns-then-call-gt-LAST : goal.returns-then-call-gt-LAST

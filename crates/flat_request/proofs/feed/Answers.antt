@@ -1,7 +1,6 @@
 -- With the numbers in range this is the reader's own loop, flat; with one out of range a byte is refused, and an empty slice needs more.
 use mathlib.Core.Path.{sym, ◌∙◌}
 use Rattle.flat_request.proofs.Readers.{fed_known, fed_none, fed_unknown}
-use borrow.Author.Rules.{rules}
 use Rattle.flat_request.proofs.feed.Goals as goal
 
 pub returns-then-has_tags : goal.returns-then-has_tags

@@ -1,6 +1,5 @@
 -- Each carrier, by its number, knows its own styles; any other number is out of range.
 use native.Mathlib.Omega.{arith}
-use borrow.Author.Rules.{rules}
 use borrow.Author.Tests.{lt-leb}
 use Rattle.flat_request.proofs.has_style.Goals as goal
 

@@ -1,7 +1,6 @@
 -- A plain byte in the middle of a field needs no reader; any other byte goes by way of one.
 use native.Mathlib.Omega.{arith}
 use Rattle.flat_request.proofs.Field.{field_read}
-use borrow.Author.Rules.{rules}
 use Rattle.flat_request.proofs.read_inside.Goals as goal
 
 pub bounds-body-reader : goal.bounds-body-reader

@@ -1,7 +1,6 @@
 -- With the tags in range this is a step of the reader, with one out of range the refusal of a stopped one.
 use mathlib.Core.Path.{sym, ◌∙◌}
 use Rattle.flat_request.proofs.Readers.{read_known, read_unknown}
-use borrow.Author.Rules.{rules}
 use Rattle.flat_request.proofs.read_unflattened.Goals as goal
 
 pub returns-then-has_tags : goal.returns-then-has_tags

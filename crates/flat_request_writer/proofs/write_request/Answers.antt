@@ -1,6 +1,5 @@
 -- A call that is none is refused first; with both numbers in range this is the writer; else the two refusals that come before the room, in their
 -- order.
-use borrow.Author.Rules.{rules}
 use borrow.Author.Tests.{lt-ltb, le-ltb}
 use Rattle.flat_request_writer.proofs.Calls.{none, done, unknown}
 use Rattle.flat_request_writer.proofs.write_request.Goals as goal

@@ -1,5 +1,4 @@
 -- The name that is found, as a flat record.
-use borrow.Author.Rules.{rules}
 use Rattle.host_end.proofs.tube_file_name.Goals as goal
 
 pub returns : goal.returns

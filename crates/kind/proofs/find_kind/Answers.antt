@@ -1,7 +1,6 @@
 -- The test is the rule's.
 use mathlib.Core.Path.{sym, ◌∙◌}
 use borrow.Author.Tests.{eq-eqb, ne_eqb}
-use borrow.Author.Rules.{rules}
 use Rattle.serial_rules.specs.Fields.{fields_of}
 use Rattle.kind.proofs.find_kind.Goals as goal
 

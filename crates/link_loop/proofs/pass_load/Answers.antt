@@ -1,5 +1,4 @@
 -- In a load the bytes join the last note, else none does.
-use borrow.Author.Rules.{rules}
 use mathlib.Core.Path.{sym, ◌∙◌}
 use Rattle.link_loop.proofs.Loads.{load_none, load_joined}
 use Rattle.link_loop.proofs.pass_load.Goals as goal

@@ -1,16 +1,11 @@
 -- Each turn takes a run of plain bytes and the data byte behind it, where there is one.
-use Prim.Native.Nat.{◌-◌}
 use native.Mathlib.Omega.{arith}
-use mathlib.Core.Path.{◌≡◌, sym, ap, ◌∙◌}
-use borrow.Author.Rules.{rules}
+use mathlib.Core.Path.{sym, ap, ◌∙◌}
 use lib.ListN.{length-set}
 use Rattle.escape.specs.Units.{unit_for}
-use Rattle.serial_rules.specs.Reply.{shape_of}
 use Rattle.turns.specs.Turns.{turn_of}
 use Rattle.shapes.specs.Shapes.{shape_for}
-use Rattle.kind.specs.Kinds.{kind_for}
-use Rattle.kind.specs.declared.CallKind.{CallKind}
-use Rattle.link_loop.proofs.Replies.{Taking, taking_none, copy_taken, taking_more, taking_done, taking_stops}
+use Rattle.link_loop.proofs.Replies.{taking_none, copy_taken, taking_more, taking_done, taking_stops}
 use Rattle.link_loop.proofs.take_bytes.Goals as goal
 
 pub loop-got-init : goal.loop-got-init

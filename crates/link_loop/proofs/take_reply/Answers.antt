@@ -1,7 +1,6 @@
 -- A link in the middle of a reply takes its bytes, any other none.
 use native.Mathlib.Omega.{arith}
 use mathlib.Core.Path.{sym, ◌∙◌}
-use borrow.Author.Rules.{rules}
 use Rattle.link_loop.proofs.Replies.{take_none, take_mid}
 use Rattle.link_loop.proofs.take_reply.Goals as goal
 

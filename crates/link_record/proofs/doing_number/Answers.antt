@@ -1,5 +1,4 @@
 -- Each action has its number.
-use borrow.Author.Rules.{rules}
 use Rattle.link_record.proofs.doing_number.Goals as goal
 
 pub returns-in-Block : goal.returns-in-Block

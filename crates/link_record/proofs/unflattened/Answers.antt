@@ -1,5 +1,4 @@
 -- Each number of the record has its field.
-use borrow.Author.Rules.{rules}
 use Rattle.link_record.proofs.unflattened.Goals as goal
 
 pub returns : goal.returns

@@ -1,6 +1,5 @@
 -- Number 0 is idle; any other is one more than that of the call.
 use borrow.Author.Tests.{eq-eqb, ne_eqb}
-use borrow.Author.Rules.{rules}
 use Rattle.link_record.proofs.wait_at.Goals as goal
 
 pub returns-then-n-eq0 : goal.returns-then-n-eq0

@@ -1,6 +1,5 @@
 -- A call that waits has one more than its number.
 use native.Mathlib.Numerals.{add-one}
-use borrow.Author.Rules.{rules}
 use Rattle.link_record.proofs.wait_number.Goals as goal
 
 pub returns-in-Waiting : goal.returns-in-Waiting

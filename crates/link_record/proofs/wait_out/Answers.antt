@@ -1,5 +1,4 @@
 -- A call that waits has its own out length, or keeps the one given.
-use borrow.Author.Rules.{rules}
 use Rattle.link_record.proofs.wait_out.Goals as goal
 
 pub returns-in-Waiting : goal.returns-in-Waiting

@@ -1,5 +1,4 @@
 -- With none open an end is refused, else it closes the innermost.
-use borrow.Author.Rules.{rules}
 use Rattle.link_step.proofs.Steps.{end_alone, transfer_ended}
 use Rattle.link_step.proofs.closing.Goals as goal
 

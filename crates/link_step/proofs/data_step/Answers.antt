@@ -1,6 +1,5 @@
 -- Outside an action the byte is of the reply, else it is of the action.
 use Rattle.link_step.proofs.Steps.{data_outside}
-use borrow.Author.Rules.{rules}
 use Rattle.link_step.proofs.data_step.Goals as goal
 
 pub returns-in-Quiet : goal.returns-in-Quiet

@@ -1,5 +1,4 @@
 -- Each arm is the end of that action, whose law says what the record left promises.
-use borrow.Author.Rules.{rules}
 use Prim.Native.Nat.{◌<◌}
 use mathlib.Core.Path.{ap, subst, ◌∙◌}
 use native.Mathlib.Omega.{arith}

@@ -1,6 +1,5 @@
 -- Outside an action the mark goes by its class; inside one it is refused.
 use Rattle.link_step.proofs.Steps.{mark_outside_lem, mark_inside}
-use borrow.Author.Rules.{rules}
 use Rattle.link_step.proofs.mark_step.Goals as goal
 
 pub returns-in-Quiet : goal.returns-in-Quiet

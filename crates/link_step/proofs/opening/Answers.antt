@@ -1,5 +1,4 @@
 -- Each arm is what that mark means, whose law says what the record left promises.
-use borrow.Author.Rules.{rules}
 use Rattle.link_step.proofs.Steps.{start_some, opening, mark_unknown, escape_told}
 use Rattle.link_step.proofs.opening.Goals as goal
 

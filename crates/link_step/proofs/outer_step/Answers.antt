@@ -1,5 +1,4 @@
 -- With no transfer open the byte is of the reply, in a load it is load data, in a save it is refused.
-use borrow.Author.Rules.{rules}
 use Rattle.link_step.proofs.Steps.{data_loaded, data_saved}
 use Rattle.link_step.proofs.outer_step.Goals as goal
 

@@ -3,7 +3,6 @@ use native.Mathlib.Omega.{arith}
 use lib.ListN.{length-set}
 use Rattle.shapes.proofs.Turned.{turned}
 use Rattle.link_step.proofs.Steps.{error_full, own_nested, own_refused, own_more, own_ended}
-use borrow.Author.Rules.{rules}
 use Rattle.link_step.proofs.own_step.Goals as goal
 
 pub finished-requires : goal.finished-requires

@@ -1,5 +1,4 @@
 -- Each arm is what is left behind an address for that.
-use borrow.Author.Rules.{rules}
 use native.Mathlib.Omega.{arith}
 use Rattle.link_step.proofs.Steps.{nested_at_lem}
 use Rattle.link_step.proofs.placed.Goals as goal

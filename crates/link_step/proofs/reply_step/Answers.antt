@@ -1,6 +1,5 @@
 -- While idle the byte is a character, else it is of the reply.
 use Rattle.link_step.proofs.Steps.{character_told}
-use borrow.Author.Rules.{rules}
 use Rattle.link_step.proofs.reply_step.Goals as goal
 
 pub returns-in-Idle : goal.returns-in-Idle

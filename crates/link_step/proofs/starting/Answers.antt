@@ -1,5 +1,4 @@
 -- An action may start, or it would open a fifth transfer.
-use borrow.Author.Rules.{rules}
 use mathlib.Core.Path.{sym, ◌∙◌}
 use Rattle.link_step.proofs.Steps.{started, fifth_refused}
 use Rattle.link_step.proofs.starting.Goals as goal

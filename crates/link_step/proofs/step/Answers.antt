@@ -1,7 +1,6 @@
 -- A stopped link is left as it is; else each arm is the rule of that piece. A usable record keeps its counts inside the lent bytes.
 use Rattle.escape.specs.Layer.{piece_for}
 use Rattle.link_step.proofs.Steps.{at_stopped, at_pending, at_mark, at_data}
-use borrow.Author.Tests.{not-true, not-false}
 use mathlib.Core.Path.{sym, ap, ◌∙◌}
 use borrow.Author.Rules.{rules}
 use Rattle.link_step.proofs.step.Goals as goal

@@ -2,7 +2,6 @@
 use native.Mathlib.Omega.{arith}
 use Rattle.shapes.proofs.Turned.{turned}
 use Rattle.link_step.proofs.Steps.{reply_refused, reply_more, reply_ended}
-use borrow.Author.Rules.{rules}
 use Rattle.link_step.proofs.taking.Goals as goal
 
 pub returns-in-Refused : goal.returns-in-Refused

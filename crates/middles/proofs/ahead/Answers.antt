@@ -1,7 +1,6 @@
 -- Each arm is the rule at that arm's code; a code of no arm fails all the rule's tests.
 use Rattle.middles.specs.Ahead.{ahead_in}
 use borrow.Author.Tests.{ne_eqb}
-use borrow.Author.Rules.{rules}
 use Rattle.middles.proofs.ahead.Goals as goal
 
 pub returns-in-2 : goal.returns-in-2

@@ -2,7 +2,6 @@
 use mathlib.Core.Path.{sym, ap, ◌∙◌}
 use Rattle.serial_rules.specs.Body.{ended}
 use Rattle.serial_rules.proofs.Lent.{take_behind}
-use borrow.Author.Rules.{rules}
 use borrow.Author.Tests.{lt-ltb, le-ltb}
 use Rattle.middles.proofs.file_ahead.Goals as goal
 

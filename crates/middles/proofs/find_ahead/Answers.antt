@@ -1,6 +1,5 @@
 -- Only an OSFIND that opens, whose A is not 0, has a string.
 use mathlib.Core.Path.{◌∙◌}
-use borrow.Author.Rules.{rules}
 use borrow.Author.Tests.{eq-eqb, ne_eqb}
 use Rattle.middles.proofs.find_ahead.Goals as goal
 

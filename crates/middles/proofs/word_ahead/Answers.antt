@@ -1,7 +1,6 @@
 -- Behind the two numbers the block goes on up to its length, which is a byte.
 use native.Mathlib.Omega.{arith}
 use mathlib.Core.Path.{◌∙◌}
-use borrow.Author.Rules.{rules}
 use borrow.Author.Tests.{lt-ltb, le-ltb}
 use Rattle.middles.proofs.word_ahead.Goals as goal
 

@@ -1,5 +1,4 @@
 -- The byte is stored where there is room.
-use borrow.Author.Rules.{rules}
 use native.Mathlib.Omega.{arith}
 use Rattle.notes.proofs.Laws.{wrote_one, wrote_none}
 use Rattle.notes.proofs.put_byte.Goals as goal

@@ -1,11 +1,7 @@
 -- Turn i has written the first i bytes.
-use borrow.Author.Rules.{rules}
 use Prim.Native.Nat.{◌-◌, ◌≤◌}
-use native.Mathlib.Omega.{arith}
 use lib.ListN.{length, take}
 use Rattle.escape.specs.Put.{Put}
-use Rattle.escape.proofs.Laws.{put_none, put_length, put_next}
-use Rattle.notes.proofs.Laws.{put_all}
 use Rattle.notes.proofs.put_bytes.Given as goal
 
 abbrev pub invariant-loop-i : goal.invariant-loop-i

@@ -1,5 +1,4 @@
 -- The bytes are written where there is room for all of them.
-use borrow.Author.Rules.{rules}
 use native.Mathlib.Omega.{arith}
 use Rattle.notes.proofs.Laws.{wrote_part, wrote_none}
 use Rattle.notes.proofs.put_data.Goals as goal

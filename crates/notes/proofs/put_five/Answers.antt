@@ -1,5 +1,4 @@
 -- Five stores at the start are one write.
-use borrow.Author.Rules.{rules}
 use native.Mathlib.Omega.{arith}
 use lib.ListN.{length-set}
 use Rattle.notes.proofs.Laws.{set_five}

@@ -1,5 +1,4 @@
 -- The note is written where there is room for a whole one.
-use borrow.Author.Rules.{rules}
 use Prim.Native.Nat.{◌*◌}
 use native.Mathlib.Omega.{arith}
 use Rattle.notes.proofs.Laws.{wrote_part, wrote_none}

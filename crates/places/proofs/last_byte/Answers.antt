@@ -1,8 +1,7 @@
 -- A body of no byte has the rule's 0; the last index of any other is the rule's.
 use native.Mathlib.Omega.{arith}
 use lib.ListN.{get_or-eq_default}
-use mathlib.Core.Path.{refl, sym}
-use borrow.Author.Rules.{rules}
+use mathlib.Core.Path.{sym}
 use Rattle.places.proofs.last_byte.Goals as goal
 
 pub returns-then-n-eq0 : goal.returns-then-n-eq0

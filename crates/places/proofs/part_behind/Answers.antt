@@ -1,7 +1,6 @@
 -- The part starts behind the first bytes or at their end, and is as long as the bytes behind allow.
 use native.Mathlib.Omega.{arith}
 use Rattle.places.proofs.Parts.{part_is}
-use borrow.Author.Rules.{rules}
 use Rattle.places.proofs.part_behind.Goals as goal
 
 pub overflow_sub-bytes : goal.overflow_sub-bytes

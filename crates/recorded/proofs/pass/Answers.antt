@@ -1,6 +1,5 @@
 -- Plain bytes of the reply, stored at once.
 use Rattle.recorded.proofs.Whole.{passes_plain}
-use borrow.Author.Rules.{rules}
 use Rattle.recorded.proofs.pass.Goals as goal
 
 pub returns : goal.returns

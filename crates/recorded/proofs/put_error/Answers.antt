@@ -1,7 +1,6 @@
 -- The number in the first place, the text behind it.
 use native.Mathlib.Omega.{arith}
 use lib.ListN.{length-set, length-take, length-drop}
-use borrow.Author.Rules.{rules}
 use Rattle.recorded.proofs.Whole.{error_put, error_size}
 use Rattle.recorded.proofs.put_error.Goals as goal
 

@@ -1,8 +1,6 @@
 -- The first i bytes are copied.
-use Prim.Native.Nat.{◌-◌}
 use native.Mathlib.Omega.{arith}
-use borrow.Author.Rules.{rules}
-use Rattle.recorded.proofs.Whole.{Putting, puts_none, puts_next, puts_size, puts_all, puts_whole}
+use Rattle.recorded.proofs.Whole.{puts_none, puts_next, puts_size, puts_all, puts_whole}
 use Rattle.recorded.proofs.put_first.Goals as goal
 
 pub loop-i-init : goal.loop-i-init

@@ -1,8 +1,6 @@
 -- The first i bytes are copied.
 use Prim.Native.Nat.{◌-◌}
-use native.Mathlib.Omega.{arith}
-use borrow.Author.Rules.{rules}
-use Rattle.recorded.proofs.Whole.{Putting, puts_none, puts_next, puts_size, puts_all, puts_whole}
+use Rattle.recorded.proofs.Whole.{Putting}
 use Rattle.recorded.proofs.put_first.Given as goal
 
 abbrev pub invariant-loop-i : goal.invariant-loop-i

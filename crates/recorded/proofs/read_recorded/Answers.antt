@@ -2,7 +2,6 @@
 use Rattle.recorded.proofs.Whole.{begins_fresh, waits_some, complete_read, denied_read}
 use Rattle.kind.specs.Kinds.{kind_for}
 use native.Mathlib.Omega.{arith}
-use borrow.Author.Rules.{rules}
 use Rattle.recorded.proofs.read_recorded.Goals as goal
 
 pub read_waiting-requires : goal.read_waiting-requires

@@ -1,5 +1,4 @@
 -- Only a reply, and an error with its number and text, leave bytes.
-use borrow.Author.Rules.{rules}
 use Rattle.recorded.proofs.settle.Goals as goal
 
 pub returns-in-More : goal.returns-in-More

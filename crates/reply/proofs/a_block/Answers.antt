@@ -2,7 +2,6 @@
 use mathlib.Core.Path.{refl}
 use Rattle.places.proofs.Parts.{whole_part}
 use Rattle.reply.proofs.Laws.{block_given}
-use borrow.Author.Rules.{rules}
 use Rattle.reply.proofs.a_block.Goals as goal
 
 pub returns : goal.returns

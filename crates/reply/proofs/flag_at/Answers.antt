@@ -1,5 +1,4 @@
 -- Bit 7 of the byte at the index.
-use borrow.Author.Rules.{rules}
 use Rattle.reply.proofs.flag_at.Goals as goal
 
 pub returns : goal.returns

@@ -1,7 +1,6 @@
 -- Bit 7 of the first byte says that there is no line; else it lies between the first byte and the last.
 use mathlib.Core.Path.{sym, ◌∙◌}
 use Rattle.reply.proofs.Laws.{gone_given, typed_given}
-use borrow.Author.Rules.{rules}
 use Rattle.reply.proofs.line.Goals as goal
 
 pub returns-then-flag_at : goal.returns-then-flag_at

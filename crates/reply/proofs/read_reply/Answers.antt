@@ -3,7 +3,6 @@ use mathlib.Core.Path.{refl}
 use Rattle.serial_rules.specs.Reply.{reply_read}
 use Rattle.places.proofs.Parts.{whole_part}
 use Rattle.reply.proofs.Laws.{by_kind, numbers_given, block_given}
-use borrow.Author.Rules.{rules}
 use Rattle.reply.proofs.read_reply.Goals as goal
 
 pub returns-in-Osrdch : goal.returns-in-Osrdch

@@ -1,5 +1,4 @@
 -- The tests are those of the rule, one behind the other; a reply without a string needs an empty one, which holds no return.
-use borrow.Author.Rules.{rules}
 use borrow.Author.Tests.{eq-eqb, ne_eqb}
 use Rattle.fields.proofs.Wrote.{no_string}
 use Rattle.reply_parts.specs.Parts.{parts_ok}

@@ -1,5 +1,4 @@
 -- In each arm the reply is known, and what the rules say of it computes to the parts.
-use borrow.Author.Rules.{rules}
 use Rattle.reply_parts.specs.Parts.{parts_of}
 use Rattle.reply_parts.proofs.parts_of.Goals as goal
 

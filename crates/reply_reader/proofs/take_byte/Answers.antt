@@ -1,7 +1,6 @@
 -- The reply goes by the shape of its kind.
 use native.Mathlib.Omega.{arith}
 use Rattle.reply_reader.proofs.Laws.{byte_taken}
-use borrow.Author.Rules.{rules}
 use Rattle.reply_reader.proofs.take_byte.Goals as goal
 
 pub returns : goal.returns

@@ -2,7 +2,6 @@
 use native.Mathlib.Omega.{arith}
 use Rattle.shapes.specs.Shapes.{shape_for}
 use Rattle.reply_reader.proofs.Laws.{over, refuses, goes_on, ends}
-use borrow.Author.Rules.{rules}
 use Rattle.reply_reader.proofs.take_shaped.Goals as goal
 
 pub returns-then-longest-at : goal.returns-then-longest-at

@@ -1,5 +1,4 @@
 -- The tests choose what stands in the middle: the string, the block or nothing.
-use borrow.Author.Rules.{rules}
 use Rattle.reply_writer.proofs.write.Goals as goal
 
 pub returns-then-parts : goal.returns-then-parts

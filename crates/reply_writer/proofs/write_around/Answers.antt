@@ -1,7 +1,6 @@
 -- The heading and the last field are empty, so the raw bytes are those of three fields: the numbers before, the bytes in the middle, the
 -- numbers behind.
 use mathlib.Core.List.{append-nil}
-use borrow.Author.Rules.{rules}
 use Rattle.reply_writer.proofs.Laws.{take_length}
 use Rattle.reply_writer.proofs.write_around.Goals as goal
 

@@ -1,5 +1,4 @@
 -- After the two tests the parts, joined, are the bytes of the reply on its carrier.
-use borrow.Author.Rules.{rules}
 use borrow.Author.Tests.{lt-ltb, le-ltb}
 use Rattle.kind.specs.Kinds.{kind_for}
 use Rattle.reply.specs.Promise.{reply_for}

@@ -2,7 +2,6 @@
 use mathlib.Core.Path.{refl, sym, ◌∙◌}
 use Rattle.places.proofs.Parts.{part_none}
 use Rattle.request.proofs.Laws.{asked, closes, opens}
-use borrow.Author.Rules.{rules}
 use Rattle.request.proofs.find.Goals as goal
 
 pub returns-then-a-eq0 : goal.returns-then-a-eq0

@@ -4,7 +4,6 @@ use Rattle.serial_rules.specs.Fields.{fields_of}
 use Rattle.serial_rules.proofs.Codes.{unlisted_code}
 use Rattle.places.proofs.Parts.{part_none, whole_part}
 use Rattle.request.proofs.Laws.{asked}
-use borrow.Author.Rules.{rules}
 use Rattle.request.proofs.read_request.Goals as goal
 
 pub returns-in-0 : goal.returns-in-0

@@ -1,12 +1,8 @@
 -- The invariant: the first `i` raw bytes were read in a chain of steps, and each needed more. A turn adds one step at its end, and the run of plain bytes behind it; any other answer ends the loop.
-use Rattle.request_loop.proofs.Feeds.{passes, pass_within, again, answered, needs_more}
-use Rattle.request_loop.proofs.Plains.{still_keeps}
-use Prim.Native.Nat.{◌+◌, ◌≤◌, ◌-◌}
-use native.Mathlib.Omega.{arith}
+use Prim.Native.Nat.{◌≤◌, ◌-◌}
 use lib.ListN.{length, take, replicate}
-use borrow.Author.Rules.{rules}
 use Rattle.serial_rules.specs.Reader as rules
-use Rattle.request_reader.specs.Read.{Read, stop}
+use Rattle.request_reader.specs.Read.{Read}
 use Rattle.request_loop.proofs.feed.Given as goal
 
 abbrev pub invariant-loop-i : goal.invariant-loop-i

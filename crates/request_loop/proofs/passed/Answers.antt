@@ -2,7 +2,6 @@
 use Prim.Native.Nat.{◌^◌}
 use native.Mathlib.Omega.{arith}
 use Rattle.turns.proofs.Plain.{sum_fits}
-use borrow.Author.Rules.{rules}
 use Rattle.request_loop.proofs.passed.Goals as goal
 
 pub overflow_cast-result : goal.overflow_cast-result

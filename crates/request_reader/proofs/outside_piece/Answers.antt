@@ -1,6 +1,5 @@
 -- Each arm is the rule on that carrier; the escape layer reads the piece on the serial one.
 use mathlib.Core.Path.{◌∙◌}
-use borrow.Author.Rules.{rules}
 use Rattle.request_reader.proofs.outside_piece.Goals as goal
 
 pub returns-in-Serial : goal.returns-in-Serial

@@ -8,7 +8,6 @@ use Rattle.serial_rules.specs.Marks.{outward_class, starts_request}
 use native.Mathlib.Nat.{div-one}
 use mathlib.Core.Path.{◌≡◌, refl, ap, ◌∙◌}
 use borrow.Author.Tests.{eq-eqb, ne_eqb}
-use borrow.Author.Rules.{rules}
 use Rattle.request_reader.proofs.starts_request.Goals as goal
 
 class-starts : (m : ℕ) → eqb (outward_class m) 1 ≡ starts_request m

@@ -1,5 +1,4 @@
 -- The checks come in the order of their answers and before the first byte is written; after them only the room is left to test.
-use borrow.Author.Rules.{rules}
 use Rattle.carrier.specs.Carriers.{carrier_of}
 use Rattle.request_writer.proofs.Answers.{too_long, bad_field, writable, encoded}
 use mathlib.Core.Path.{ap}

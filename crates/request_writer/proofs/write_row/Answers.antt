@@ -1,6 +1,5 @@
 -- The heading is lent from where it starts, and the first numbers of head and tail are what the row says.
 use native.Mathlib.Omega.{arith}
-use borrow.Author.Rules.{rules}
 use lib.ListN.{length-take}
 use Rattle.calls.proofs.Rows.{style_fits, start_fits, heading_same}
 use Rattle.request_writer.proofs.write_row.Goals as goal

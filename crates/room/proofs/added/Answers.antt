@@ -1,5 +1,4 @@
 -- Only the serial lead adds bytes.
-use borrow.Author.Rules.{rules}
 use Rattle.room.specs.Carriers.{added_on}
 use Rattle.room.proofs.added.Goals as goal
 

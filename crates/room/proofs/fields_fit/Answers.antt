@@ -1,5 +1,4 @@
 -- What the four fields leave of the room, one after another, is what all of them leave.
-use borrow.Author.Rules.{rules}
 use Rattle.room.proofs.Room.{fits, too_much}
 use Rattle.room.proofs.fields_fit.Goals as goal
 

@@ -1,7 +1,6 @@
 -- Data bytes take their length and the bytes that the carrier adds; the two are taken from the room one after the other.
 use native.Mathlib.Omega.{arith}
 use mathlib.Core.Path.{refl}
-use borrow.Author.Rules.{rules}
 use Rattle.room.proofs.Room.{none_left, short, spare}
 use Rattle.room.proofs.left_after.Goals as goal
 

@@ -1,6 +1,5 @@
 -- The heading is taken from the room first; then the fields fit doubled, or are measured.
 use mathlib.Core.List.{◌++◌}
-use borrow.Author.Rules.{rules}
 use Rattle.room.proofs.Room.{no_heading, doubled, behind}
 use Rattle.room.proofs.parts_fit.Goals as goal
 

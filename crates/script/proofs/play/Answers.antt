@@ -1,7 +1,6 @@
 -- The count is what limit and script allow; where the results fit, the records are played, and what is left of script and limit gives the answer.
 use Rattle.script.proofs.Laws.{allowed, too_short, all_played}
 use native.Mathlib.Omega.{arith}
-use borrow.Author.Rules.{rules}
 use Rattle.script.proofs.play.Goals as goal
 
 pub returns-then-results-n : goal.returns-then-results-n

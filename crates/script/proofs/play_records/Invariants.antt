@@ -1,11 +1,8 @@
 -- The invariant: the first `i` records are done and their results stored. A turn adds one record at the end.
-use Rattle.script.proofs.Laws.{none_played, one_more}
 use Rattle.script.specs.Script.{RecordsDone}
-use lib.ListN.{length, length-set}
-use mathlib.Core.Path.{◌≡◌, refl}
+use lib.ListN.{length}
+use mathlib.Core.Path.{◌≡◌}
 use Prim.Native.Nat.{◌≤◌, ◌-◌}
-use native.Mathlib.Omega.{arith}
-use borrow.Author.Rules.{rules}
 use Rattle.script.proofs.play_records.Given as goal
 
 abbrev pub invariant-loop-i : goal.invariant-loop-i

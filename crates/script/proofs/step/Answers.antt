@@ -4,7 +4,6 @@ use Rattle.chip.specs.Promise.{access_of, reply_of}
 use Prim.Native.Nat.{◌/◌, ◌%◌}
 use lib.Dec.{eqb}
 use borrow.Author.Tests.{eq-eqb, ne_eqb}
-use borrow.Author.Rules.{rules}
 use Rattle.script.proofs.step.Goals as goal
 
 pub returns-then-kind-eq4 : goal.returns-then-kind-eq4

@@ -1,5 +1,4 @@
 -- Two numbers, two bytes that end them, and the four of the word.
-use borrow.Author.Rules.{rules}
 use native.Mathlib.Omega.{arith}
 use Rattle.script_lines.proofs.Lines.{end_length}
 use Rattle.script_lines.proofs.end_length.Goals as goal

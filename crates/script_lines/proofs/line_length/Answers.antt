@@ -1,5 +1,4 @@
 -- Three numbers, and three bytes that end them.
-use borrow.Author.Rules.{rules}
 use native.Mathlib.Omega.{arith}
 use Rattle.script_lines.proofs.Lines.{line_length}
 use Rattle.script_lines.proofs.line_length.Goals as goal

@@ -1,11 +1,10 @@
 -- Turn i has taken the lengths of the first i lines and `more` from the room. A line that does not fit ends the loop, and with it
 -- the lines of all records do not fit.
 use borrow.Author.Tests.{le-leb, lt-leb}
-use borrow.Author.Rules.{rules}
 use native.Mathlib.Omega.{arith}
 use mathlib.Core.Path.{◌≡◌, sym}
 use lib.ListN.{length}
-use Prim.Native.Nat.{◌≤◌, ◌+◌, ◌-◌}
+use Prim.Native.Nat.{◌+◌}
 use Rattle.script_lines.specs.Text.{lines_of}
 use Rattle.script_lines.proofs.Lines.{nth, lines_length, lines_room}
 use Rattle.script_lines.proofs.lines_fit.Goals as goal

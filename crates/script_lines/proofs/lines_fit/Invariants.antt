@@ -1,13 +1,9 @@
 -- Turn i has taken the lengths of the first i lines and `more` from the room. A line that does not fit ends the loop, and with it
 -- the lines of all records do not fit.
-use borrow.Author.Tests.{le-leb, lt-leb}
-use borrow.Author.Rules.{rules}
-use native.Mathlib.Omega.{arith}
-use mathlib.Core.Path.{◌≡◌, sym}
+use mathlib.Core.Path.{◌≡◌}
 use lib.ListN.{length}
 use Prim.Native.Nat.{◌≤◌, ◌+◌, ◌-◌}
 use Rattle.script_lines.specs.Text.{lines_of}
-use Rattle.script_lines.proofs.Lines.{nth, lines_length, lines_room}
 use Rattle.script_lines.proofs.lines_fit.Given as goal
 
 abbrev pub invariant-loop-i : goal.invariant-loop-i

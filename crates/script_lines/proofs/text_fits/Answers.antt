@@ -1,5 +1,4 @@
 -- The results are counted first; then the lines and the last line, which are the text, are held to the room.
-use borrow.Author.Rules.{rules}
 use native.Mathlib.Omega.{arith}
 use Rattle.script_lines.proofs.Room.{too_few, as_told}
 use Rattle.script_lines.proofs.text_fits.Goals as goal

@@ -1,5 +1,4 @@
 -- One store is a text of one byte.
-use borrow.Author.Rules.{rules}
 use Rattle.script_text.proofs.Writers.{wrote_byte}
 use Rattle.script_text.proofs.put_byte.Goals as goal
 

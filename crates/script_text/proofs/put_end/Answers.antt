@@ -1,5 +1,4 @@
 -- The word, the count and the answer written one after the other are the last line; each need of room follows from its length.
-use borrow.Author.Rules.{rules}
 use native.Mathlib.Omega.{arith}
 use Rattle.script_text.proofs.Writers.{wrote_then}
 use Rattle.script_lines.proofs.Lines.{end_fields, end_length, field_length}

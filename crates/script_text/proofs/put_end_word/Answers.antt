@@ -1,5 +1,4 @@
 -- Four bytes written one after the other.
-use borrow.Author.Rules.{rules}
 use Rattle.script_text.proofs.Writers.{wrote_then}
 use Rattle.script_text.proofs.put_end_word.Goals as goal
 

@@ -1,5 +1,4 @@
 -- The digits and the byte behind them.
-use borrow.Author.Rules.{rules}
 use native.Mathlib.Omega.{arith}
 use Rattle.script_lines.specs.Fields.{field_of}
 use Rattle.script_text.proofs.Writers.{wrote_then}

@@ -1,5 +1,4 @@
 -- Three fields written one after the other are the line; each need of room follows from its length.
-use borrow.Author.Rules.{rules}
 use native.Mathlib.Omega.{arith}
 use Rattle.script_text.proofs.Writers.{wrote_then}
 use Rattle.script_lines.proofs.Lines.{line_fields, line_length, field_length}

@@ -1,12 +1,7 @@
 -- Turn i has written the lines of the first i records; the next line fits, since all do.
-use borrow.Author.Rules.{rules}
-use native.Mathlib.Omega.{arith}
-use mathlib.Core.Path.{◌≡◌}
 use Prim.Native.Nat.{◌≤◌, ◌-◌}
 use Rattle.script_text.specs.Write.{Wrote}
 use Rattle.script_lines.specs.Text.{lines_of}
-use Rattle.script_text.proofs.Writers.{wrote_then, wrote_nothing}
-use Rattle.script_lines.proofs.Lines.{nth, lines_snoc, lines_room}
 use Rattle.script_text.proofs.put_lines.Given as goal
 
 abbrev pub invariant-loop-i : goal.invariant-loop-i

@@ -1,5 +1,4 @@
 -- The room is tested exactly before the first byte is written; the lines and the last line, written one after the other, are the text.
-use borrow.Author.Rules.{rules}
 use native.Mathlib.Omega.{arith}
 use Rattle.script_text.proofs.Writers.{wrote_then}
 use Rattle.script_text.proofs.Done.{held, enough, short, full}

@@ -1,7 +1,6 @@
 -- The rule's last index of no bytes is 0, as of one byte, so the first byte ends them; else the callee has the rule.
 use native.Mathlib.Omega.{arith}
 use borrow.Author.Tests.{le-ltb}
-use borrow.Author.Rules.{rules}
 use Rattle.shapes.proofs.counted_turn.Goals as goal
 
 pub returns-then-k-eq0 : goal.returns-then-k-eq0

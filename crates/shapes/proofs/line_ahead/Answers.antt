@@ -1,5 +1,4 @@
 -- Behind its first byte a line is counted as the longest one.
-use borrow.Author.Rules.{rules}
 use borrow.Author.Tests.{eq-eqb, ne_eqb}
 use mathlib.Core.Path.{◌∙◌}
 use Rattle.shapes.proofs.line_ahead.Goals as goal

@@ -2,7 +2,6 @@
 use mathlib.Core.Path.{◌∙◌}
 use Rattle.serial_rules.specs.Reply.{shape_turn}
 use borrow.Author.Tests.{eq-eqb, ne_eqb}
-use borrow.Author.Rules.{rules}
 use Rattle.shapes.proofs.line_turn.Goals as goal
 
 pub returns-then-b-eq1 : goal.returns-then-b-eq1

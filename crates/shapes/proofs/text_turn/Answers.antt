@@ -1,7 +1,6 @@
 -- The tests are the rule's: the number comes first, &00 ends the text, and a 256th byte of it is refused.
 use Rattle.serial_rules.specs.Reply.{shape_turn}
 use borrow.Author.Tests.{le-ltb, lt-ltb, eq-eqb, ne_eqb}
-use borrow.Author.Rules.{rules}
 use Rattle.shapes.proofs.text_turn.Goals as goal
 
 pub returns-then-n-eq0 : goal.returns-then-n-eq0

@@ -3,7 +3,6 @@ use mathlib.Core.Path.{sym, ap, ◌∙◌}
 use Rattle.serial_rules.proofs.Lent.{take_behind}
 use Rattle.strings.proofs.Laws.{no_name}
 use Rattle.strings.specs.Text.{string_from}
-use borrow.Author.Rules.{rules}
 use Rattle.strings.proofs.file_name.Goals as goal
 
 pub returns-then-body-lt-FILE_BLOCK : goal.returns-then-body-lt-FILE_BLOCK

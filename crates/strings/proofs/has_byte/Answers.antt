@@ -1,10 +1,6 @@
 -- Turn i has found whether the byte stands among the first i bytes; with those from i on they are all.
 use borrow.Author.Rules.{rules}
-use Prim.Native.Nat.{◌-◌, ◌≤◌}
-use mathlib.Core.Path.{◌≡◌, refl}
-use mathlib.Core.Bool.{◌||◌}
-use lib.ListN.{length, drop}
-use Rattle.strings.specs.Text.{has_byte}
+use mathlib.Core.Path.{refl}
 use Rattle.strings.proofs.Laws.{byte_more, byte_all}
 use Rattle.strings.proofs.has_byte.Goals as goal
 

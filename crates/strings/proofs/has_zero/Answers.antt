@@ -1,6 +1,5 @@
 -- The scan for a byte, of this one.
 use mathlib.Core.Path.{◌∙◌}
-use borrow.Author.Rules.{rules}
 use Rattle.strings.proofs.Laws.{has_zero_is}
 use Rattle.strings.proofs.has_zero.Goals as goal
 

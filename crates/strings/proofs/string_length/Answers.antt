@@ -1,9 +1,6 @@
 -- Turn i has passed i bytes of the string, so what is left of the scan is the scan from i on.
 use borrow.Author.Rules.{rules}
-use Prim.Native.Nat.{◌-◌, ◌≤◌}
-use mathlib.Core.Path.{◌≡◌, sym, ◌∙◌}
-use lib.ListN.{length, drop}
-use Rattle.strings.specs.Text.{string_from}
+use mathlib.Core.Path.{sym, ◌∙◌}
 use Rattle.strings.proofs.Laws.{ends_here, too_long, goes_on, not_ended}
 use Rattle.strings.proofs.string_length.Goals as goal
 

@@ -1,10 +1,8 @@
 -- Turn i has passed i bytes of the string, so what is left of the scan is the scan from i on.
-use borrow.Author.Rules.{rules}
 use Prim.Native.Nat.{◌-◌, ◌≤◌}
-use mathlib.Core.Path.{◌≡◌, sym, ◌∙◌}
+use mathlib.Core.Path.{◌≡◌}
 use lib.ListN.{length, drop}
 use Rattle.strings.specs.Text.{string_from}
-use Rattle.strings.proofs.Laws.{ends_here, too_long, goes_on, not_ended}
 use Rattle.strings.proofs.string_length.Given as goal
 
 abbrev pub invariant-loop-i : goal.invariant-loop-i

@@ -1,7 +1,6 @@
 -- The text of the results that the player stored is the script's text, and all of them fit.
 use Rattle.transcript.proofs.Laws.{joined}
 use mathlib.Core.Path.{refl}
-use borrow.Author.Rules.{rules}
 use Rattle.transcript.proofs.transcript.Goals as goal
 
 pub returns : goal.returns

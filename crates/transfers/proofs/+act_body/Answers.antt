@@ -1,11 +1,9 @@
 -- The cycle of the action reader and the body of a transfer.
-use Prim.Native.Nat.{ℕ, ◌-◌, ◌<◌}
 use native.Mathlib.Omega.{arith}
 use mathlib.Core.Path.{sym, ap, ◌∙◌}
-use lib.ListN.{length}
 use Rattle.escape.specs.Units.{unit_for}
 use Rattle.escape.proofs.Units.{data_near, mark_near}
-use Rattle.transfers.proofs.Cycle.{begun, act_halts, act_tells, act_opens, Walking, walk_starts, end_not, walk_ran_out, walk_saved, walk_loads, walk_ends, walk_acts, walk_halts}
+use Rattle.transfers.proofs.Cycle.{begun, act_halts, act_tells, act_opens, walk_starts, end_not, walk_ran_out, walk_saved, walk_loads, walk_ends, walk_acts, walk_halts}
 use Rattle.transfers.proofs.+act_body.Goals as goal
 
 pub act-overflow_add-depth : goal.act-overflow_add-depth

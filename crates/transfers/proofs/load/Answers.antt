@@ -2,7 +2,6 @@
 use Rattle.transfers.proofs.Parts.{run_grows, loads}
 use Rattle.serial_rules.proofs.Lent.{take_behind}
 use native.Mathlib.Omega.{arith}
-use borrow.Author.Rules.{rules}
 use Rattle.transfers.proofs.load.Goals as goal
 
 pub overflow_sub-more : goal.overflow_sub-more

@@ -1,12 +1,8 @@
 -- Turn i has copied the first i bytes, and what is left of the run is that of the bytes behind them.
-use Prim.Native.Nat.{◌-◌}
 use native.Mathlib.Omega.{arith}
 use mathlib.Core.Path.{sym, ◌∙◌}
-use borrow.Author.Rules.{rules}
-use borrow.Author.Tests.{not-true, not-false}
-use lib.ListN.{length}
 use Rattle.escape.proofs.Laws.{put_length}
-use Rattle.turns.proofs.Plain.{Copying, copies_none, full, ended, stopped, one_more}
+use Rattle.turns.proofs.Plain.{copies_none, full, ended, stopped, one_more}
 use Rattle.turns.proofs.copy_plain.Goals as goal
 
 pub loop-i-init : goal.loop-i-init

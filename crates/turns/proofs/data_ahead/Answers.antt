@@ -1,8 +1,6 @@
 -- No byte is an escape, or they are gone through one by one.
-use borrow.Author.Rules.{rules}
 use native.Mathlib.Omega.{arith}
 use mathlib.Core.Path.{sym}
-use borrow.Author.Tests.{not-true}
 use lib.Seq.{length-take-le}
 use Rattle.turns.proofs.Plain.{run_clear}
 use Rattle.turns.proofs.data_ahead.Goals as goal

@@ -1,10 +1,7 @@
 -- The first i bytes are of the run, and what is left of it is that of the bytes behind them.
-use Prim.Native.Nat.{◌-◌}
 use native.Mathlib.Omega.{arith}
 use borrow.Author.Tests.{eq-eqb, ne_eqb}
-use Rattle.turns.specs.Plain.{is_data}
-use Rattle.turns.proofs.Plain.{Running, runs_none, run_full, run_ended, run_stopped, run_more}
-use borrow.Author.Rules.{rules}
+use Rattle.turns.proofs.Plain.{runs_none, run_full, run_ended, run_stopped, run_more}
 use Rattle.turns.proofs.data_before.Goals as goal
 
 pub loop-i-init : goal.loop-i-init

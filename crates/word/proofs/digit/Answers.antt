@@ -3,7 +3,6 @@ use Rattle.word.proofs.Digits.{power_some, digit_behind}
 use Rattle.word.specs.Word.{digit}
 use mathlib.Core.Path.{sym}
 use native.Mathlib.Omega.{arith}
-use borrow.Author.Rules.{rules}
 use Rattle.word.proofs.digit.Goals as goal
 
 pub nonzero_div-byte : goal.nonzero_div-byte

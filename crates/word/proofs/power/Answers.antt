@@ -1,6 +1,5 @@
 -- Eight times i places to the left, for each i below eight.
 use Rattle.word.proofs.Digits.{shifted}
-use borrow.Author.Rules.{rules}
 use Rattle.word.proofs.power.Goals as goal
 
 pub returns : goal.returns

@@ -2,7 +2,6 @@
 use Rattle.word.proofs.Digits.{replaced, replaced_fits, weight_most, weight_fits}
 use mathlib.Core.Path.{refl}
 use native.Mathlib.Omega.{arith}
-use borrow.Author.Rules.{rules}
 use Rattle.word.proofs.replaced.Goals as goal
 
 pub overflow_mul-old : goal.overflow_mul-old

@@ -2,7 +2,6 @@
 use Rattle.word.proofs.Digits.{slid, slid_fits, all_slid, power_some}
 use native.Mathlib.Nat.{mod-le}
 use native.Mathlib.Omega.{arith}
-use borrow.Author.Rules.{rules}
 use Rattle.word.proofs.slid.Goals as goal
 
 pub nonzero_rem-below : goal.nonzero_rem-below

@@ -1,5 +1,4 @@
 -- Only a load or save has a limit.
-use borrow.Author.Rules.{rules}
 use mathlib.Core.Path.{sym, ◌∙◌}
 use Rattle.actions.proofs.Starts.{may_open, may_always}
 use Rattle.actions.proofs.Action.may_start.Goals as goal

@@ -1,5 +1,4 @@
 -- Each action has its number.
-use borrow.Author.Rules.{rules}
 use native.Mathlib.Omega.{arith}
 use Rattle.actions.proofs.Action.most.Goals as goal
 

@@ -1,5 +1,4 @@
 -- Each action has its shape.
-use borrow.Author.Rules.{rules}
 use Rattle.actions.proofs.Action.shape.Goals as goal
 
 pub returns-in-Block : goal.returns-in-Block

@@ -1,5 +1,4 @@
 -- Each arm is the meaning of that class.
-use borrow.Author.Rules.{rules}
 use mathlib.Core.Path.{sym, ap, ◌∙◌}
 use native.Mathlib.Nat.{div-one}
 use Prim.Native.Nat.{ℕ, ◌%◌}

@@ -2,7 +2,6 @@
 use Rattle.chip.proofs.Steps.{served, as_ruled, missing_as_ruled}
 use Rattle.chip.specs.Promise.{access_of}
 use mathlib.Core.Path.{sym, ◌∙◌}
-use borrow.Author.Rules.{rules}
 use Rattle.chip.proofs.Chip.access.Goals as goal
 
 pub step-requires : goal.step-requires

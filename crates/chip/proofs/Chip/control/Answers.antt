@@ -1,7 +1,6 @@
 -- The flags are the rules' flags; the clear counts every channel as empty, and any other control byte leaves the channels.
 use Rattle.chip.proofs.Steps.{clear_done, control_done}
 use mathlib.Core.Path.{sym, ◌∙◌}
-use borrow.Author.Rules.{rules}
 use Rattle.chip.proofs.Chip.control.Goals as goal
 
 pub returns-then-is_clear : goal.returns-then-is_clear

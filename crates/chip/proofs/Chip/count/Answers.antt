@@ -1,7 +1,6 @@
 -- The count kept is the length of the channel's list.
 use Rattle.chip.proofs.Parts.{held_is}
 use mathlib.Core.Path.{sym, ◌∙◌}
-use borrow.Author.Rules.{rules}
 use Rattle.chip.proofs.Chip.count.Goals as goal
 
 pub returns : goal.returns

@@ -1,6 +1,5 @@
 -- Only the count changes.
 use mathlib.Core.Path.{refl}
-use borrow.Author.Rules.{rules}
 use Rattle.chip.proofs.Chip.counted.Goals as goal
 
 pub returns : goal.returns

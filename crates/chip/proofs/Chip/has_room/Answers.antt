@@ -1,6 +1,5 @@
 -- The count is compared with the rules' limit.
 use Rattle.chip_rules.specs.Rules.{room}
-use borrow.Author.Rules.{rules}
 use Rattle.chip.proofs.Chip.has_room.Goals as goal
 
 pub returns : goal.returns

@@ -1,5 +1,4 @@
 -- The count is compared with 0.
-use borrow.Author.Rules.{rules}
 use Rattle.chip.proofs.Chip.holds_byte.Goals as goal
 
 pub returns : goal.returns

@@ -1,5 +1,4 @@
 -- The test of the flag, then that of the channel.
-use borrow.Author.Rules.{rules}
 use Rattle.chip.proofs.Chip.interrupts.Goals as goal
 
 pub returns-then-has_bit : goal.returns-then-has_bit

@@ -4,7 +4,6 @@ use lib.Dec.{eqb}
 use mathlib.Core.Path.{sym, ◌∙◌}
 use borrow.Author.Tests.{eqb-true}
 use Rattle.chip_rules.specs.Rules.{ready}
-use borrow.Author.Rules.{rules}
 use Rattle.chip.proofs.Chip.is_ready.Goals as goal
 
 pub returns-then-is_register : goal.returns-then-is_register

@@ -1,6 +1,5 @@
 -- Each line's weight, summed in the rules' order.
 use Rattle.chip_rules.specs.Rules.{lines}
-use borrow.Author.Rules.{rules}
 use Rattle.chip.proofs.Chip.line_sum.Goals as goal
 
 pub returns : goal.returns

@@ -1,5 +1,4 @@
 -- A valid record is seen as its state; any other has line value 0.
-use borrow.Author.Rules.{rules}
 use Rattle.chip.proofs.Chip.lines.Goals as goal
 
 pub returns-then-valid : goal.returns-then-valid

@@ -1,7 +1,6 @@
 -- None, one or more bytes move: the second into the first word, the third into the second, and those behind it within the last.
 use Rattle.chip.proofs.Parts.{moved_none, moved_one, moved_more}
 use native.Mathlib.Omega.{arith}
-use borrow.Author.Rules.{rules}
 use Rattle.chip.proofs.Chip.moved_down.Goals as goal
 
 pub returns-then-n-eq0 : goal.returns-then-n-eq0

@@ -1,6 +1,5 @@
 -- By V: two bytes held, or any.
 use Rattle.chip_rules.specs.Rules.{n_flag}
-use borrow.Author.Rules.{rules}
 use Rattle.chip.proofs.Chip.n_flag.Goals as goal
 
 pub returns-then-has_bit : goal.returns-then-has_bit

@@ -1,5 +1,4 @@
 -- I and R1, or else J and R4.
-use borrow.Author.Rules.{rules}
 use Rattle.chip.proofs.Chip.parasite_irq.Goals as goal
 
 pub returns-then-interrupts : goal.returns-then-interrupts

@@ -1,6 +1,5 @@
 -- M, then N.
 use Rattle.chip_rules.specs.Rules.{n_flag}
-use borrow.Author.Rules.{rules}
 use Rattle.chip.proofs.Chip.parasite_nmi.Goals as goal
 
 pub returns-then-has_bit : goal.returns-then-has_bit

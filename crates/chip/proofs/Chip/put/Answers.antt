@@ -3,7 +3,6 @@ use Rattle.chip.proofs.Parts.{within, put_done}
 use Rattle.chip.specs.Record.{count_of}
 use mathlib.Core.Path.{◌≡◌, ◌∙◌}
 use native.Mathlib.Omega.{arith}
-use borrow.Author.Rules.{rules}
 use Rattle.chip.proofs.Chip.put.Goals as goal
 
 pub stored-requires : goal.stored-requires

@@ -2,7 +2,6 @@
 use Rattle.chip.proofs.Steps.{took, none}
 use borrow.Author.Tests.{ltb-true}
 use mathlib.Core.Path.{sym, ◌∙◌}
-use borrow.Author.Rules.{rules}
 use Rattle.chip.proofs.Chip.read_data.Goals as goal
 
 pub take-taken-requires : goal.take-taken-requires

@@ -1,6 +1,5 @@
 -- The three tests in order.
 use borrow.Author.Tests.{le-leb, lt-leb}
-use borrow.Author.Rules.{rules}
 use Rattle.chip.proofs.Chip.served.Goals as goal
 
 pub returns-then-side-gt1 : goal.returns-then-side-gt1

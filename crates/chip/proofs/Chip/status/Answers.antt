@@ -1,6 +1,5 @@
 -- Each bit's weight, summed in the rules' order.
 use Rattle.chip_rules.specs.Rules.{status}
-use borrow.Author.Rules.{rules}
 use Rattle.chip.proofs.Chip.status.Goals as goal
 
 pub returns : goal.returns

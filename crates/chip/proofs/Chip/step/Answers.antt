@@ -1,7 +1,6 @@
 -- An odd offset is data, an even one status; each arm is the rules' arm.
 use Rattle.chip.proofs.Steps.{unchanged}
 use borrow.Author.Tests.{eq-eqb, ne_eqb}
-use borrow.Author.Rules.{rules}
 use Rattle.chip.proofs.Chip.step.Goals as goal
 
 pub returns-then-write : goal.returns-then-write

@@ -1,7 +1,6 @@
 -- The byte lies in the first word, the second, or, as the third or a later one, in the last.
 use Rattle.chip.proofs.Parts.{stored_oldest, stored_next, stored_later}
 use native.Mathlib.Omega.{arith}
-use borrow.Author.Rules.{rules}
 use Rattle.chip.proofs.Chip.stored.Goals as goal
 
 pub returns-then-i-eq0 : goal.returns-then-i-eq0

@@ -3,7 +3,6 @@ use Rattle.chip.proofs.Parts.{within, take_done}
 use Rattle.chip.specs.Record.{count_of}
 use mathlib.Core.Path.{◌≡◌, ◌∙◌}
 use native.Mathlib.Omega.{arith}
-use borrow.Author.Rules.{rules}
 use Rattle.chip.proofs.Chip.take.Goals as goal
 
 pub moved_down-requires : goal.moved_down-requires

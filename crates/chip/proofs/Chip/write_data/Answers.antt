@@ -1,7 +1,6 @@
 -- A channel with room gets the byte; one without refuses it.
 use Rattle.chip.proofs.Steps.{has_place, wrote, full}
 use mathlib.Core.Path.{sym, ◌∙◌}
-use borrow.Author.Rules.{rules}
 use Rattle.chip.proofs.Chip.write_data.Goals as goal
 
 pub put-requires : goal.put-requires

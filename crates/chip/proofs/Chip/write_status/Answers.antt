@@ -1,6 +1,5 @@
 -- The host's R1 status write is control; every other one changes nothing.
 use Rattle.chip.proofs.Steps.{controlled_step, unchanged}
-use borrow.Author.Rules.{rules}
 use Rattle.chip.proofs.Chip.write_status.Goals as goal
 
 pub returns-then-is_register : goal.returns-then-is_register

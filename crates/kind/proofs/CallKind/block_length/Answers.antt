@@ -1,5 +1,4 @@
 -- Each arm answers with the length of its kind's block; OSWORD's is the number that its variant carries.
-use borrow.Author.Rules.{rules}
 use Rattle.kind.proofs.CallKind.block_length.Goals as goal
 
 pub returns-in-Osrdch : goal.returns-in-Osrdch

@@ -1,5 +1,4 @@
 -- Each arm answers with the number of its kind's form.
-use borrow.Author.Rules.{rules}
 use Rattle.kind.proofs.CallKind.form.Goals as goal
 
 pub returns-in-Osrdch : goal.returns-in-Osrdch

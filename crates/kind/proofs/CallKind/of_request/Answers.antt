@@ -2,7 +2,6 @@
 use Rattle.serial_rules.specs.Fields.{fields_of}
 use Rattle.serial_rules.specs.Reply.{kind_in}
 use Rattle.serial_rules.proofs.Codes.{unlisted_code}
-use borrow.Author.Rules.{rules}
 use Rattle.kind.proofs.CallKind.of_request.Goals as goal
 
 pub returns-in-0 : goal.returns-in-0

@@ -1,5 +1,4 @@
 -- Each arm answers with the shape of its kind; the length of OSWORD's is the number that its variant carries.
-use borrow.Author.Rules.{rules}
 use Rattle.kind.proofs.CallKind.shape.Goals as goal
 
 pub returns-in-Osrdch : goal.returns-in-Osrdch

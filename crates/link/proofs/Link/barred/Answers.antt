@@ -1,7 +1,5 @@
 -- The two tests are those of the definition.
 use mathlib.Core.Path.{sym, ◌∙◌}
-use borrow.Author.Tests.{not-true, not-false}
-use borrow.Author.Rules.{rules}
 use Rattle.link.proofs.Link.barred.Goals as goal
 
 pub returns-then-not-usable : goal.returns-then-not-usable

@@ -2,7 +2,6 @@
 use Rattle.serial_rules.specs.Reply.{longest}
 use Rattle.link.proofs.Begins.{none_bars, begin_barred, begin_complete, begin_waits}
 use mathlib.Core.Path.{sym, ap, ◌∙◌}
-use borrow.Author.Rules.{rules}
 use Rattle.link.proofs.Link.begin.Goals as goal
 
 pub returns-then-barred-ne0 : goal.returns-then-barred-ne0

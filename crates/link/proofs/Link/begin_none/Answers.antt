@@ -1,6 +1,5 @@
 -- What bars any call bars this one; where nothing does it is not carried.
 use Rattle.link.proofs.Begins.{begin_none_barred, begin_none_free}
-use borrow.Author.Rules.{rules}
 use Rattle.link.proofs.Link.begin_none.Goals as goal
 
 pub returns-then-barred-eq0 : goal.returns-then-barred-eq0

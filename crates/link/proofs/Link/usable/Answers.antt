@@ -1,5 +1,4 @@
 -- The tests are those of the definition; a count below a room is below the longest shape.
-use borrow.Author.Rules.{rules}
 use Prim.Native.Nat.{ℕ}
 use mathlib.Core.Path.{◌≡◌}
 use native.Mathlib.Omega.{arith}

@@ -1,5 +1,4 @@
 -- By whether the counts have room.
-use borrow.Author.Rules.{rules}
 use mathlib.Core.Path.{sym, ◌∙◌}
 use Rattle.notes.proofs.Laws.{add_counted, add_beyond}
 use Rattle.notes.proofs.Log.add.Goals as goal

@@ -1,5 +1,4 @@
 -- By whether bytes can join the last note.
-use borrow.Author.Rules.{rules}
 use mathlib.Core.Path.{sym, ◌∙◌}
 use Rattle.notes.proofs.Laws.{run_counted, run_beyond}
 use Rattle.notes.proofs.Log.add_run.Goals as goal

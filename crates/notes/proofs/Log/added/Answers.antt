@@ -1,5 +1,4 @@
 -- Each arm is what is noted of that answer.
-use borrow.Author.Rules.{rules}
 use mathlib.Core.Path.{refl, ◌∙◌}
 use lib.ListN.{length}
 use Rattle.notes.proofs.Laws.{count_facts, block_counts, load_counts, ended_number}

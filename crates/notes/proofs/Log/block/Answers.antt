@@ -1,5 +1,4 @@
 -- One note more, and the bytes of the block.
-use borrow.Author.Rules.{rules}
 use mathlib.Core.Path.{refl, sym}
 use lib.Seq.{length-take-le}
 use Rattle.notes.proofs.Log.block.Goals as goal

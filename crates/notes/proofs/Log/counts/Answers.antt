@@ -1,5 +1,4 @@
 -- The tests are those of the definition.
-use borrow.Author.Rules.{rules}
 use borrow.Author.Tests.{lt-ltb, le-ltb, le-leb, lt-leb}
 use Rattle.notes.specs.Logs.{countable}
 use Rattle.notes.proofs.Log.counts.Goals as goal

@@ -1,5 +1,4 @@
 -- The bytes of the run are stored, and the last note counts them.
-use borrow.Author.Rules.{rules}
 use native.Mathlib.Omega.{arith}
 use lib.ListN.{length}
 use Rattle.notes.proofs.Laws.{join_facts, run_within}

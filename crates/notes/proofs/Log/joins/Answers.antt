@@ -1,5 +1,4 @@
 -- The tests are those of the definition.
-use borrow.Author.Rules.{rules}
 use mathlib.Core.Path.{sym, ◌∙◌}
 use Rattle.notes.specs.Logs.{joinable}
 use Rattle.notes.proofs.Log.joins.Goals as goal

@@ -1,5 +1,4 @@
 -- The byte joins the last note, or has one of its own.
-use borrow.Author.Rules.{rules}
 use native.Mathlib.Omega.{arith}
 use mathlib.Core.Path.{refl, sym, ◌∙◌}
 use Rattle.notes.proofs.Laws.{goes_facts, not_both}

@@ -1,6 +1,5 @@
 -- The two tests are those of the limits, one after the other.
 use Rattle.request_reader.specs.View.{inside_limits}
-use borrow.Author.Rules.{rules}
 use Rattle.request_reader.proofs.Reader.keeps_inside_limits.Goals as goal
 
 pub returns-then-has_style : goal.returns-then-has_style

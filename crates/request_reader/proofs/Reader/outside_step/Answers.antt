@@ -2,7 +2,6 @@
 use Rattle.request_reader.proofs.Steps.{outside_pending, outside_data, outside_mark}
 use Rattle.escape.specs.Layer.{piece_for}
 use mathlib.Core.Path.{sym, ap, ◌∙◌}
-use borrow.Author.Rules.{rules}
 use Rattle.request_reader.proofs.Reader.outside_step.Goals as goal
 
 pub returns-in-Pending : goal.returns-in-Pending

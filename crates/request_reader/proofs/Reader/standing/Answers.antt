@@ -1,5 +1,4 @@
 -- Each phase asks for its own limits, as in the rule.
-use borrow.Author.Rules.{rules}
 use Rattle.request_reader.proofs.Reader.standing.Goals as goal
 
 pub returns-then-keeps_outside_limits : goal.returns-then-keeps_outside_limits

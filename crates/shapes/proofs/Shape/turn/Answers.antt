@@ -1,7 +1,6 @@
 -- Each arm hands the byte to the turn of its shape.
 use mathlib.Core.Path.{◌∙◌}
 use Rattle.serial_rules.specs.Reply.{shape_turn}
-use borrow.Author.Rules.{rules}
 use Rattle.shapes.proofs.Shape.turn.Goals as goal
 
 pub returns-in-Fixed : goal.returns-in-Fixed
