@@ -42,14 +42,7 @@ pub fn step(chip: Chip, side: u8, offset: u8, operation: u8, byte: u8) -> Steppe
 }
 
 // The thin entry: the chip is lent, stepped by value and stored.
-#[unsafe(no_mangle)]
-pub extern "C" fn tube_access(
-    chip: &mut Chip,
-    side: u8,
-    offset: u8,
-    operation: u8,
-    byte: u8,
-) -> Reply
+pub fn tube_access(chip: &mut Chip, side: u8, offset: u8, operation: u8, byte: u8) -> Reply
     ensures { AccessDone chip.old (access_of side offset (writes operation) byte) (replied result) chip.new }
 {
     let a = step(*chip, side, offset, operation, byte);
@@ -58,24 +51,21 @@ pub extern "C" fn tube_access(
 }
 
 // A fresh chip: see `chip::Chip::new`.
-#[unsafe(no_mangle)]
-pub extern "C" fn tube_new() -> Chip
+pub fn tube_new() -> Chip
     ensures { result ≡ blank }
 {
     Chip::new()
 }
 
 // A reset: see `chip::Chip::reset`.
-#[unsafe(no_mangle)]
-pub extern "C" fn tube_reset(chip: Chip) -> Chip
+pub fn tube_reset(chip: Chip) -> Chip
     ensures { ResetDone chip result }
 {
     chip.reset()
 }
 
 // The line value: see `chip::Chip::lines`.
-#[unsafe(no_mangle)]
-pub extern "C" fn tube_lines(chip: Chip) -> u8
+pub fn tube_lines(chip: Chip) -> u8
     ensures { result ≡ line_value (view chip) }
 {
     chip.lines()

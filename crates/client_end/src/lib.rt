@@ -18,8 +18,7 @@ use link::Link;
 use link_record::FlatLink;
 
 // Writes a request: see `flat_request_writer::write_request`.
-#[unsafe(no_mangle)]
-pub extern "C" fn tube_write_request(
+pub fn tube_write_request(
     carrier: u8,
     style: u8,
     call: u8,
@@ -37,24 +36,21 @@ pub extern "C" fn tube_write_request(
 }
 
 // A fresh link: see `link_record::fresh`.
-#[unsafe(no_mangle)]
-pub extern "C" fn tube_link() -> FlatLink
+pub fn tube_link() -> FlatLink
     ensures { result ≡ fresh_link }
 {
     link_record::fresh()
 }
 
 // Begins a call: see `flat_link::begin`.
-#[unsafe(no_mangle)]
-pub extern "C" fn tube_begin(link: FlatLink, call: u8, out_length: u8) -> FlatBegun
+pub fn tube_begin(link: FlatLink, call: u8, out_length: u8) -> FlatBegun
     ensures { FlatBeginDone link call out_length result }
 {
     flat_link::begin(link, call, out_length)
 }
 
 // The loop over raw bytes: see `flat_link::run`.
-#[unsafe(no_mangle)]
-pub extern "C" fn tube_run(
+pub fn tube_run(
     link: FlatLink,
     raw: &[u8],
     reply: &mut [u8; CallKind::REPLY],
@@ -68,8 +64,7 @@ pub extern "C" fn tube_run(
 }
 
 // One byte of a reply on the parallel side: see `flat_reply::reply_step`.
-#[unsafe(no_mangle)]
-pub extern "C" fn tube_reply_step(
+pub fn tube_reply_step(
     call: u8,
     out_length: u8,
     count: u16,
@@ -82,8 +77,7 @@ pub extern "C" fn tube_reply_step(
 }
 
 // The fields of a finished reply: see `flat_reply::read_reply`.
-#[unsafe(no_mangle)]
-pub extern "C" fn tube_read_reply(call: u8, out_length: u8, bytes: &[u8]) -> FlatGiven
+pub fn tube_read_reply(call: u8, out_length: u8, bytes: &[u8]) -> FlatGiven
     ensures { FlatReadDone call (kind_at call out_length) bytes.now result }
 {
     flat_reply::read_reply(call, out_length, bytes)

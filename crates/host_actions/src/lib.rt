@@ -6,8 +6,7 @@ ghost use Rattle.flat_action.specs.Actions.{action_at, FlatActionDone, FlatDataD
 use flat::FlatWritten;
 
 // Writes an action: see `flat_action::write_action`.
-#[unsafe(no_mangle)]
-pub extern "C" fn tube_write_action(
+pub fn tube_write_action(
     action: u8,
     first: u8,
     second: u8,
@@ -23,8 +22,7 @@ pub extern "C" fn tube_write_action(
 }
 
 // Writes load data: see `flat_action::write_data`.
-#[unsafe(no_mangle)]
-pub extern "C" fn tube_write_data(bytes: &[u8], out: &mut [u8]) -> FlatWritten
+pub fn tube_write_data(bytes: &[u8], out: &mut [u8]) -> FlatWritten
     ensures { FlatDataDone bytes.now out.old result out.new }
 {
     flat_action::write_data(bytes, out)

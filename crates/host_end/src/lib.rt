@@ -18,52 +18,42 @@ use flat_request::FlatFed;
 use request_reader::Reader;
 
 // A fresh request reader: see `flat_request::fresh`.
-#[unsafe(no_mangle)]
-pub extern "C" fn tube_reader(carrier: u8) -> FlatReader
+pub fn tube_reader(carrier: u8) -> FlatReader
     ensures { result ≡ fresh_reader carrier }
 {
     flat_request::fresh(carrier)
 }
 
 // Raw bytes up to the first answer that is not need-more: see `flat_request::feed`.
-#[unsafe(no_mangle)]
-pub extern "C" fn tube_feed(
-    reader: FlatReader,
-    raw: &[u8],
-    body: &mut [u8; Reader::BODY],
-) -> FlatFed
+pub fn tube_feed(reader: FlatReader, raw: &[u8], body: &mut [u8; Reader::BODY]) -> FlatFed
     ensures { FlatFeedDone reader body.old raw.now result body.new }
 {
     flat_request::feed(reader, raw, body)
 }
 
 // The fields of a finished request: see `flat_asked::read_request`.
-#[unsafe(no_mangle)]
-pub extern "C" fn tube_read_request(code: u8, body: &[u8]) -> FlatAsked
+pub fn tube_read_request(code: u8, body: &[u8]) -> FlatAsked
     ensures { FlatAskedDone code body.now result }
 {
     flat_asked::read_request(code, body)
 }
 
 // The kind of a finished request: see `flat_kind::kind_of`.
-#[unsafe(no_mangle)]
-pub extern "C" fn tube_kind_of(code: u8, body: &[u8]) -> FlatKind
+pub fn tube_kind_of(code: u8, body: &[u8]) -> FlatKind
     ensures { FlatKindDone code body.now result }
 {
     flat_kind::kind_of(code, body)
 }
 
 // The name in a body of OSFILE: see `strings::file_name`.
-#[unsafe(no_mangle)]
-pub extern "C" fn tube_file_name(body: &[u8]) -> FlatName
+pub fn tube_file_name(body: &[u8]) -> FlatName
     ensures { result ≡ flat_name (name_of body.now) }
 {
     flat::flat_name(strings::file_name(body))
 }
 
 // Writes a reply: see `flat_reply::write_reply`.
-#[unsafe(no_mangle)]
-pub extern "C" fn tube_write_reply(
+pub fn tube_write_reply(
     carrier: u8,
     call: u8,
     out_length: u8,

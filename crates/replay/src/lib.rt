@@ -9,8 +9,7 @@ use flat_recorded::FlatRecorded;
 use kind::CallKind;
 
 // A whole recorded reply: see `flat_recorded::read_recorded`.
-#[unsafe(no_mangle)]
-pub extern "C" fn tube_read_recorded(
+pub fn tube_read_recorded(
     call: u8,
     out_length: u8,
     raw: &[u8],

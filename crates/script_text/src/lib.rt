@@ -26,8 +26,8 @@ pub fn write_text(results: &[u8], played: usize, answer: u8, out: &mut [u8]) -> 
 
 // The lines of n records.
 fn put_lines(results: &[u8], n: usize, out: &mut [u8]) -> usize
-    requires n_in_bounds { 3 * n ≤ length results.now }
-    requires results_in_bounds { length (lines_of n results.now) ≤ length out.old }
+    requires records { 3 * n ≤ length results.now }
+    requires room { length (lines_of n results.now) ≤ length out.old }
     ensures { Wrote 0 (lines_of n results.now) out.old out.new result }
 {
     let mut at: usize = 0;

@@ -13,16 +13,14 @@ use link_record::FlatLink;
 use request_reader::Reader;
 
 // One raw byte to a request reader: see `flat_request::read`.
-#[unsafe(no_mangle)]
-pub extern "C" fn tube_read(reader: FlatReader, raw: u8, body: &mut [u8; Reader::BODY]) -> FlatRead
+pub fn tube_read(reader: FlatReader, raw: u8, body: &mut [u8; Reader::BODY]) -> FlatRead
     ensures { FlatDone reader body.old raw result body.new }
 {
     flat_request::read(reader, raw, body)
 }
 
 // One raw byte to a link: see `flat_link::step`.
-#[unsafe(no_mangle)]
-pub extern "C" fn tube_link_step(
+pub fn tube_link_step(
     link: FlatLink,
     raw: u8,
     reply: &mut [u8; CallKind::REPLY],

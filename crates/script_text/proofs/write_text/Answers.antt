@@ -9,8 +9,8 @@ put_lines-at-requires c =
     let a = c.args in
     let h = enough a.results.now a.played a.answer a.out.now c.text_fits.ensures c.if-text_fits.true in
     record {
-      n_in_bounds = held a.results.now a.played a.answer a.out.now c.text_fits.ensures c.if-text_fits.true;
-      results_in_bounds = omega arith;
+      records = held a.results.now a.played a.answer a.out.now c.text_fits.ensures c.if-text_fits.true;
+      room = omega arith;
     }
 
 pub put_end-requires : goal.put_end-requires
