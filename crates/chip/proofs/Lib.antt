@@ -1,4 +1,5 @@
 pub mod Each
+pub mod Ports
 pub mod Parts
 pub mod Steps
 pub mod Histories

@@ -14,8 +14,8 @@ use Rattle.chip.specs.declared.Chip.{Chip}
 use Rattle.chip.specs.Each.{each}
 use Rattle.chip.specs.Record.{places, byte_in, byte_of, count_of, contents, state_of, valid_of}
 use Rattle.chip.specs.Promise.{UnusedKept}
-use Rattle.chip.specs.Steps.{Stored, MovedDown, Counted, PutDone, TakeDone}
-use Rattle.chip_rules.specs.State.{R3, held, chan, put}
+use Rattle.chip.specs.Steps.{Stored, MovedDown, Counted}
+use Rattle.chip_rules.specs.State.{Channel, R3, held, chan, put}
 use Rattle.chip_rules.specs.Rules.{capacity}
 use Rattle.chip.proofs.Each.{each_at, each_length, each_same, each_snoc, each_set, every_at, every_true}
 
@@ -216,13 +216,19 @@ module _ (chip r : Chip) (k n : ℕ) (small : k < 8) (ok : valid_of chip ≡ tru
         bits = ap (λ (f : ℕ). f / 64) flags;
       }
 
+-- What a data write and a data read leave: a valid record, of the state that the rules say.
+pub record Left (chip r : Chip) (k : ℕ) (l : Channel) : Type 0 where
+  pub state : state_of r ≡ put (state_of chip) k l
+  pub valid : valid_of r ≡ true
+  pub free : UnusedKept chip r
+
 module _ (chip s r : Chip) (k : ℕ) (small : k < 8) (ok : valid_of chip ≡ true) where
   n : ℕ
   n = count_of chip k
 
   -- a byte stored behind those held
   pub put_done : (b : ℕ) → held (chan (state_of chip) k) < capacity k → Stored chip k (count_of chip k) b s → Counted s k (count_of chip k + 1) r
-      → PutDone chip k b r
+      → Left chip r k (chan (state_of chip) k ++ (b ∷ []))
   unfolding n
   put_done b room t u =
       let w = within chip k small ok in
@@ -244,24 +250,23 @@ module _ (chip s r : Chip) (k : ℕ) (small : k < 8) (ok : valid_of chip ≡ tru
       }
 
   -- the oldest byte taken, and the others moved down
-  pub take_done : 0 < held (chan (state_of chip) k) → MovedDown chip k (count_of chip k - 1) s → Counted s k (count_of chip k - 1) r
-      → TakeDone chip k (record { byte = digit chip.oldest k; chip = r })
+  pub take_done : {m : ℕ} → count_of chip k ≡ m + 1 → MovedDown chip k m s → Counted s k m r
+      → (chan (state_of chip) k ≡ digit chip.oldest k ∷ each (byte_of r k) m) × Left chip r k (each (byte_of r k) m)
   unfolding n byte_in
-  take_done some t u =
+  take_done {m} some t u =
       let w = within chip k small ok in
-      let m = n - 1 in
-      let q : n ≡ suc m = omega (arith, w.count) in
       let fewer : m ≤ capacity k = omega (arith, w.most) in
       let counts : Replaced chip.held k m r.held = rw t.held at u.held in
       let here : (j i : ℕ) → byte_of r j i ≡ byte_of s j i = λ j i. ap (λ (f : ℕ → ℕ → ℕ). f j i) u.bytes in
       let same : (j i : ℕ) → i < places j → (j ≡ k → i < m → ⊥) → byte_of r j i ≡ byte_of chip j i = λ j i l f. here j i ∙ t.others j i l f in
       let rest : each (byte_of r k) m ≡ each (λ i. byte_of chip k (suc i)) m =
       each_same (λ i. byte_of chip k (suc i)) (byte_of r k) m (λ i l. here k i ∙ t.moved i l) in
-      let left : chan (state_of r) k ≡ each (byte_of r k) m = chan_at r k small ∙ ap (each (byte_of r k)) (counts.at small) in
       let flags = u.flags ∙ t.flags in
-      record {
-        oldest = chan_at chip k small ∙ ap (each (byte_of chip k)) q ∙ rw (left, rest);
-        state = changed_state chip r k m small ok fewer counts flags same ∙ rw left;
-        valid = changed_valid chip r k m small ok fewer counts flags same;
-        free = changed_free chip r k m small ok fewer counts flags same;
-      }
+      (
+        chan_at chip k small ∙ ap (each (byte_of chip k)) (some ∙ add-one m) ∙ rw rest,
+        record {
+          state = changed_state chip r k m small ok fewer counts flags same;
+          valid = changed_valid chip r k m small ok fewer counts flags same;
+          free = changed_free chip r k m small ok fewer counts flags same;
+        },
+      )

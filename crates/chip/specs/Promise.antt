@@ -1,23 +1,27 @@
 -- What the chip's functions promise, by the rules and through the view of the record.
-use Rattle.std.specs.Prelude.{ℕ, ◌/◌, ◌<◌, ◌≤◌, ◌≡◌, Bool, List}
+use Rattle.std.specs.Prelude.{ℕ, ◌/◌, ◌<◌, ◌≤◌, ◌≡◌, Bool, List, Result, Ok, Err}
 use Rattle.chip.specs.declared.Chip.{Chip}
 use Rattle.chip.specs.declared.Accessed.{Accessed}
-use Rattle.chip.specs.declared.Answer.{Answer}
-use Rattle.chip.specs.declared.Answer.TheVariants.{Done, Missing, NoRoom, Empty}
+use Rattle.chip.specs.declared.Refusal.{Refusal}
+use Rattle.chip.specs.declared.Refusal.TheVariants.{Missing, NoRoom, Empty}
 use Rattle.chip.specs.Record.{places, byte_of, count_of, view, blank}
 use Rattle.chip_rules.specs.State.{Access, Reply}
 use Rattle.chip_rules.specs.History.{Event, says, after}
 use Rattle.chip_rules.specs.Trace.{Trace}
 
--- Document 01's number of each answer; with the byte, what the caller is told.
-abbrev pub number : Answer → ℕ
-number Done = 0
+-- Document 01's number of each refusal
+abbrev pub number : Refusal → ℕ
 number Missing = 1
 number NoRoom = 2
 number Empty = 3
 
+-- what the caller is told: answer 0 with the byte, or the number of the refusal with byte 0
+abbrev pub told : Result ℕ Refusal → Reply
+told (Ok b) = record { answer = 0; byte = b }
+told (Err e) = record { answer = number e; byte = 0 }
+
 abbrev pub reply_of : Accessed → Reply
-reply_of r = record { answer = number r.answer; byte = r.byte }
+reply_of r = told r.answer
 
 abbrev pub access_of : ℕ → ℕ → Bool → ℕ → Access
 access_of side offset write byte = record { side = side; offset = offset; write = write; byte = byte }

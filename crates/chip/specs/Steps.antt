@@ -1,25 +1,48 @@
 -- What the private parts of the chip's functions promise.
-use Rattle.std.specs.Prelude.{ℕ, suc, ◌<◌, ◌≡◌, true, [], ◌∷◌, ◌++◌}
+use Rattle.std.specs.Prelude.{ℕ, suc, ◌<◌, ◌≡◌, Bool, [], ◌∷◌, ◌++◌}
 use Rattle.chip.specs.declared.Chip.{Chip}
-use Rattle.chip.specs.declared.Taken.{Taken}
-use Rattle.chip.specs.declared.Accessed.{Accessed}
-use Rattle.chip.specs.declared.Answer.{Answer}
-use Rattle.chip.specs.Record.{places, byte_of, state_of, valid_of}
-use Rattle.chip.specs.Promise.{number, reply_of, UnusedKept}
-use Rattle.chip_rules.specs.State.{chan, put, Outcome}
-use Rattle.chip_rules.specs.Rules.{controlled}
+use Rattle.chip.specs.declared.Port.{Port}
+use Rattle.chip.specs.declared.Refusal.{Refusal}
+use Rattle.chip.specs.declared.Register.{Register}
+use Rattle.chip.specs.declared.Register.TheVariants.{R1, R2, R3, R4}
+use Rattle.chip.specs.declared.Side.{Side}
+use Rattle.chip.specs.declared.Side.TheVariants.{Host, Parasite}
+use Rattle.chip.specs.Record.{places, byte_of, state_of}
+use Rattle.chip.specs.Promise.{number, AccessDone, UnusedKept}
+use Rattle.chip_rules.specs.State.{chan, put, done, refused, Access, Outcome}
+use Rattle.chip_rules.specs.Rules.{Request, controlled}
 use Rattle.word.specs.Word.{Replaced}
 
-abbrev pub told : Answer → ℕ → Chip → Accessed
-told n b c = record { answer = n; byte = b; chip = c }
+-- the rules' numbers of a side and of a register
+abbrev pub side_of : Side → ℕ
+side_of Host = 0
+side_of Parasite = 1
 
--- What the parts of `access` promise of a record that holds no more than its places.
-pub record StepDone (chip : Chip) (o : Outcome) (r : Accessed) : Type 0 where
-  pub reply : reply_of r ≡ o.reply
-  pub state : state_of r.chip ≡ o.state
-  pub valid : valid_of r.chip ≡ true
-  pub kept : (number r.answer ≡ 0 → ⊥) → r.chip ≡ chip
-  pub free : UnusedKept chip r.chip
+abbrev pub register_of : Register → ℕ
+register_of R1 = 0
+register_of R2 = 1
+register_of R3 = 2
+register_of R4 = 3
+
+abbrev pub request_of : Port → Bool → Bool → ℕ → Request
+request_of port is_data write byte =
+    record { register = register_of port.register; is_data = is_data; write = write; byte = byte }
+
+-- What `served` promises of an access that is done and of one that is refused.
+abbrev pub ServedDone : Chip → Access → ℕ → Chip → Type 0
+ServedDone chip a byte next = AccessDone chip a (record { answer = 0; byte = byte }) next
+
+abbrev pub ServedRefused : Chip → Access → Refusal → Type 0
+ServedRefused chip a e = AccessDone chip a (record { answer = number e; byte = 0 }) chip
+
+-- What the parts of `access` promise of a record that holds no more than its places: the rules' outcome is done, with this byte and this
+-- record left, or refused.
+pub record StepDone (chip : Chip) (o : Outcome) (byte : ℕ) (next : Chip) : Type 0 where
+  pub outcome : o ≡ done byte (state_of next)
+  pub free : UnusedKept chip next
+
+abbrev pub StepRefused : Chip → Outcome → Refusal → Type 0
+StepRefused chip o e = o ≡ refused (number e) (state_of chip)
 
 -- the byte i behind the oldest of channel c is b
 pub record Stored (chip : Chip) (c i b : ℕ) (r : Chip) : Type 0 where
@@ -44,18 +67,9 @@ pub record Counted (chip : Chip) (c n : ℕ) (r : Chip) : Type 0 where
 -- one byte more in channel c
 pub record PutDone (chip : Chip) (c b : ℕ) (r : Chip) : Type 0 where
   pub state : state_of r ≡ put (state_of chip) c (chan (state_of chip) c ++ (b ∷ []))
-  pub valid : valid_of r ≡ true
   pub free : UnusedKept chip r
-
--- the oldest byte of channel c, and the chip without it
-pub record TakeDone (chip : Chip) (c : ℕ) (r : Taken) : Type 0 where
-  pub oldest : chan (state_of chip) c ≡ r.byte ∷ chan (state_of r.chip) c
-  pub state : state_of r.chip ≡ put (state_of chip) c (chan (state_of r.chip) c)
-  pub valid : valid_of r.chip ≡ true
-  pub free : UnusedKept chip r.chip
 
 -- the control byte x
 pub record ControlDone (chip : Chip) (x : ℕ) (r : Chip) : Type 0 where
   pub state : state_of r ≡ controlled x (state_of chip)
-  pub valid : valid_of r ≡ true
   pub free : UnusedKept chip r

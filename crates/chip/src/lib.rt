@@ -1,14 +1,14 @@
 // The Tube chip as a record by value: eight channels and six flags.
 #![tactic(auto)]
 
-ghost use Rattle.std.specs.Prelude.{◌+◌, ◌≤◌, ◌<◌, ◌≡◌, true, cond, ◌&&◌, leb, ltb, eqb};
+ghost use Rattle.std.specs.Prelude.{◌+◌, ◌≤◌, ◌<◌, ◌≡◌, true, false, cond, ◌&&◌, leb, ltb, eqb, MatchResult};
 ghost use Rattle.chip_rules.specs.State.{held, fed, toward, chan, done, host, R1, R3};
-ghost use Rattle.chip_rules.specs.Rules.{decode, capacity, limit, room, n_flag, ready, status_of, bit, controlled, host_irq, parasite_irq, parasite_nmi, lines, take_oldest, append, on, step};
+ghost use Rattle.chip_rules.specs.Rules.{capacity, limit, room, n_flag, ready, status_of, bit, controlled, host_irq, parasite_irq, parasite_nmi, lines, take_oldest, append, on, step};
 ghost use Rattle.chip_rules.specs.History.{line_value};
 ghost use Rattle.flags.specs.Flags.{flags_of};
 ghost use Rattle.chip.specs.Record.{places, state_of, valid_of, view, blank};
 ghost use Rattle.chip.specs.Promise.{number, access_of, reply_of, AccessDone, ResetDone};
-ghost use Rattle.chip.specs.Steps.{told, StepDone, Stored, MovedDown, Counted, PutDone, TakeDone, ControlDone};
+ghost use Rattle.chip.specs.Steps.{side_of, register_of, request_of, StepDone, StepRefused, ServedDone, ServedRefused, Stored, MovedDown, Counted, PutDone, ControlDone};
 
 // A record of words, so that an access changes registers and no array in memory. Channels are numbered register by register,
 // host-to-parasite first. Byte c of `held` counts the bytes of channel c; byte c of `oldest` is its oldest and byte c of `next` the one
@@ -24,42 +24,167 @@ pub struct Chip {
     pub flags: u64,
 }
 
-// The answers to an access: done; a side or offset that does not exist, or a record that holds more than its capacities;
-// a data write without room; a data read of an empty channel.
-#[derive(Clone, Copy)]
-pub enum Answer {
-    Done,
-    Missing,
-    NoRoom,
-    Empty,
+// Why an access is refused: a side or offset that does not exist, or a record that holds more than its capacities; a data write without
+// room; a data read of an empty channel.
+#[derive(Clone, Copy, PartialEq, Eq, Debug)]
+pub enum Refusal {
+    Missing = 1,
+    NoRoom = 2,
+    Empty = 3,
 }
 
-impl Answer {
-    // Document 01's number of the answer.
+impl Refusal {
+    // Document 01's number of it.
     pub fn number(self) -> u8
         ensures { result ≡ number self }
     {
-        match self {
-            Answer::Done => 0,
-            Answer::Missing => 1,
-            Answer::NoRoom => 2,
-            Answer::Empty => 3,
+        self as u8
+    }
+}
+
+// What an access gives: the byte read, or 0 for a write, or why it is refused; and the chip that it leaves.
+#[derive(Clone, Copy)]
+pub struct Accessed {
+    pub answer: Result<u8, Refusal>,
+    pub chip: Chip,
+}
+
+impl Accessed {
+    // Document 01's number of the answer: 0, or that of the refusal.
+    pub fn number(self) -> u8
+        ensures { result ≡ (reply_of self).answer }
+    {
+        match self.answer {
+            Ok(_) => 0,
+            Err(refusal) => refusal.number(),
+        }
+    }
+
+    // The byte, 0 for a refusal.
+    pub fn byte(self) -> u8
+        ensures { result ≡ (reply_of self).byte }
+    {
+        self.answer.unwrap_or(0)
+    }
+}
+
+// The two sides, by the rules' numbers.
+#[derive(Clone, Copy, PartialEq, Eq)]
+enum Side {
+    Host = 0,
+    Parasite = 1,
+}
+
+impl Side {
+    fn number(self) -> u8
+        ensures { result ≡ side_of self }
+    {
+        self as u8
+    }
+}
+
+impl TryFrom<u8> for Side {
+    type Error = Refusal;
+
+    fn try_from(n: u8) -> Result<Self, Refusal>
+        ensures { MatchResult result (λ side. side_of side ≡ n) (λ e. (number e ≡ 1) × (1 < n)) }
+    {
+        match n {
+            0 => Ok(Side::Host),
+            1 => Ok(Side::Parasite),
+            _ => Err(Refusal::Missing),
         }
     }
 }
 
-// The chip stands last.
-#[derive(Clone, Copy)]
-pub struct Accessed {
-    pub answer: Answer,
-    pub byte: u8,
-    pub chip: Chip,
+// The four registers, by the rules' numbers.
+#[derive(Clone, Copy, PartialEq, Eq)]
+enum Register {
+    R1 = 0,
+    R2 = 1,
+    R3 = 2,
+    R4 = 3,
 }
 
+impl Register {
+    fn number(self) -> u8
+        ensures { result ≡ register_of self }
+    {
+        self as u8
+    }
+}
+
+impl TryFrom<u8> for Register {
+    type Error = Refusal;
+
+    fn try_from(n: u8) -> Result<Self, Refusal>
+        ensures { MatchResult result (λ register. register_of register ≡ n) (λ e. (number e ≡ 1) × (3 < n)) }
+    {
+        match n {
+            0 => Ok(Register::R1),
+            1 => Ok(Register::R2),
+            2 => Ok(Register::R3),
+            3 => Ok(Register::R4),
+            _ => Err(Refusal::Missing),
+        }
+    }
+}
+
+// A register as a side sees it.
+#[derive(Clone, Copy, PartialEq, Eq)]
+struct Port {
+    side: Side,
+    register: Register,
+}
+
+const HOST_R1: Port = Port {
+    side: Side::Host,
+    register: Register::R1,
+};
+
+const HOST_R3: Port = Port {
+    side: Side::Host,
+    register: Register::R3,
+};
+
+const HOST_R4: Port = Port {
+    side: Side::Host,
+    register: Register::R4,
+};
+
+const PARASITE_R3: Port = Port {
+    side: Side::Parasite,
+    register: Register::R3,
+};
+
+const PARASITE_R4: Port = Port {
+    side: Side::Parasite,
+    register: Register::R4,
+};
+
+impl Port {
+    // The channel that its side feeds.
+    fn fed(self) -> Channel
+        ensures { result.index ≡ fed (side_of self.side) (register_of self.register) }
+    {
+        let index = 2 * self.register.number() + self.side.number();
+        Channel { index }
+    }
+
+    // The channel towards its side.
+    fn toward(self) -> Channel
+        ensures { result.index ≡ toward (side_of self.side) (register_of self.register) }
+    {
+        let index = 2 * self.register.number() + (1 - self.side.number());
+        Channel { index }
+    }
+}
+
+// One of the eight channels.
 #[derive(Clone, Copy)]
-struct Taken {
-    byte: u8,
-    chip: Chip,
+struct Channel {
+    index: u8,
+    ghost within: { index < 8 },
 }
 
 // What each channel holds: byte c is the capacity of channel c. And below how many bytes held it takes one while V is clear: R3 when empty.
@@ -69,6 +194,19 @@ const CAPACITIES: u64 = Chip::LATCH_CAPACITY as u64 * 0x0101_0000_0101_0001
 
 const LIMITS_V_CLEAR: u64 = Chip::LATCH_CAPACITY as u64 * 0x0101_0101_0101_0001
     + Chip::R1_CAPACITY as u64 * 0x0000_0000_0000_0100;
+
+impl Channel {
+    // The number of held bytes below which a write to it is taken.
+    fn limit(self, flags: u64) -> u8
+        ensures { result ≡ limit (flags_of flags) self.index }
+    {
+        if flags::has_bit(flags, flags::V) {
+            word::digit(CAPACITIES, self.index)
+        } else {
+            word::digit(LIMITS_V_CLEAR, self.index)
+        }
+    }
+}
 
 impl Chip {
     // What parasite-to-host R1, R3 either way, and every other channel hold.
@@ -102,10 +240,15 @@ impl Chip {
     pub fn access(self, side: u8, offset: u8, write: bool, byte: u8) -> Accessed
         ensures { AccessDone self (access_of side offset write byte) (reply_of result) result.chip }
     {
-        if self.served(side, offset) {
-            self.step(side, offset, write, byte)
-        } else {
-            answered(Answer::Missing, 0, self)
+        match self.served(side, offset, write, byte) {
+            Ok((byte, next)) => Accessed {
+                answer: Ok(byte),
+                chip: next.chip,
+            },
+            Err(refusal) => Accessed {
+                answer: Err(refusal),
+                chip: self,
+            },
         }
     }
 
@@ -113,334 +256,259 @@ impl Chip {
     pub fn lines(self) -> u8
         ensures { result ≡ line_value (view self) }
     {
-        if self.valid() { self.line_sum() } else { 0 }
+        if self.is_valid() { self.line_sum() } else { 0 }
+    }
+
+    // The byte and the chip that an access leaves.
+    fn served(
+        self,
+        side: u8,
+        offset: u8,
+        write: bool,
+        byte: u8,
+    ) -> Result<(u8, Valid), Refusal>
+        ensures { MatchResult result (λ d. ServedDone self (access_of side offset write byte) d.0 d.1.chip) (λ e. ServedRefused self (access_of side offset write byte) e) }
+    {
+        let side = Side::try_from(side)?;
+        let register = Register::try_from(offset / 2)?;
+        let chip = self.valid()?;
+        chip.step(Port { side, register }, offset % 2 == 1, write, byte)
     }
 
     // Whether no channel holds more than its capacity.
-    fn valid(self) -> bool
+    fn is_valid(self) -> bool
         ensures { result ≡ valid_of self }
     {
-        let held = self.held;
-        let mut c: u8 = 0;
-        while c < 8 {
-            if word::digit(CAPACITIES, c) < word::digit(held, c) {
-                return false;
-            }
-            c += 1;
-        }
-        true
+        (0..8u8).all(|c| word::digit(self.held, c) <= word::digit(CAPACITIES, c))
     }
 
-    // Whether the side and the offset exist and the record is valid.
-    fn served(self, side: u8, offset: u8) -> bool
-        ensures { result ≡ (leb side 1 && (leb offset 7 && valid_of self)) }
+    fn valid(self) -> Result<Valid, Refusal>
+        ensures { MatchResult result (λ v. v.chip ≡ self) (λ e. (number e ≡ 1) × (valid_of self ≡ false)) }
     {
-        if 1 < side {
-            return false;
-        }
-        if 7 < offset {
-            return false;
-        }
-        self.valid()
-    }
-
-    // An access to a side and an offset that exist.
-    fn step(self, side: u8, offset: u8, write: bool, byte: u8) -> Accessed
-        requires { (side ≤ 1) × (offset ≤ 7) × (valid_of self ≡ true) }
-        ensures { StepDone self (step (state_of self) side (decode (access_of side offset write byte))) result }
-    {
-        let register = offset / 2;
-        if offset % 2 == 1 {
-            if write {
-                return self.write_data(fed_by(side, register), byte);
-            }
-            return self.read_data(towards(side, register));
-        }
-        if write {
-            self.write_status(side, register, byte)
+        if self.is_valid() {
+            Ok(Valid { chip: self })
         } else {
-            answered(Answer::Done, self.status(side, register), self)
+            Err(Refusal::Missing)
         }
     }
 
-    // A data write of `b` to channel `c`.
-    fn write_data(self, c: u8, b: u8) -> Accessed
-        requires { (c < 8) × (valid_of self ≡ true) }
-        ensures { StepDone self (on (state_of self) c (append (room (flags_of self.flags) c) b)) result }
+    // Byte `i` behind the oldest of a channel is `b`.
+    fn stored(self, channel: Channel, i: u8, b: u8) -> Self
+        requires { i < places channel.index }
+        ensures { Stored self channel.index i b result }
     {
-        if self.has_room(c) {
-            answered(Answer::Done, 0, self.put(c, b))
-        } else {
-            answered(Answer::NoRoom, 0, self)
+        let c = channel.index;
+        match i {
+            0 => Chip {
+                oldest: word::replaced(self.oldest, c, b),
+                ..self
+            },
+            1 => Chip {
+                next: word::replaced(self.next, c, b),
+                ..self
+            },
+            _ => Chip {
+                later: word::replaced(self.later, i - 2, b),
+                ..self
+            },
         }
     }
 
-    // A data read of channel `c`.
-    fn read_data(self, c: u8) -> Accessed
-        requires { (c < 8) × (valid_of self ≡ true) }
-        ensures { StepDone self (on (state_of self) c take_oldest) result }
+    // Each of the `n` oldest bytes of a channel is the one behind it.
+    fn moved_down(self, channel: Channel, n: u8) -> Self
+        requires { n < places channel.index }
+        ensures { MovedDown self channel.index n result }
     {
-        if self.holds_byte(c) {
-            let taken = self.take(c);
-            let next = taken.chip;
-            answered(Answer::Done, taken.byte, next)
-        } else {
-            answered(Answer::Empty, 0, self)
-        }
-    }
-
-    // A status write: control at the host's R1, and nothing elsewhere.
-    fn write_status(self, side: u8, register: u8, byte: u8) -> Accessed
-        requires { valid_of self ≡ true }
-        ensures { StepDone self (done 0 (cond (eqb side host && eqb register R1) (controlled byte (state_of self)) (state_of self))) result }
-    {
-        if is_register(side, register, 0, 0) {
-            answered(Answer::Done, 0, self.control(byte))
-        } else {
-            answered(Answer::Done, 0, self)
-        }
-    }
-
-    // The chip after the control byte `x`. The clear leaves the bytes as they are.
-    fn control(self, x: u8) -> Self
-        requires { valid_of self ≡ true }
-        ensures { ControlDone self x result }
-    {
-        let flags = flags::flags_after(x, self.flags);
-        let held = if flags::is_clear(x) { 0 } else { self.held };
-        Chip {
-            oldest: self.oldest,
-            next: self.next,
-            later: self.later,
-            held: held,
-            flags: flags,
-        }
-    }
-
-    // Channel `c` with one byte more.
-    fn put(self, c: u8, b: u8) -> Self
-        requires { (c < 8) × (valid_of self ≡ true) × (held (chan (state_of self) c) < capacity c) }
-        ensures { PutDone self c b result }
-    {
-        let n = self.count(c);
-        self.stored(c, n, b).counted(c, n + 1)
-    }
-
-    // Channel `c` without its oldest byte, and that byte.
-    fn take(self, c: u8) -> Taken
-        requires { (c < 8) × (valid_of self ≡ true) × (0 < held (chan (state_of self) c)) }
-        ensures { TakeDone self c result }
-    {
-        let byte = word::digit(self.oldest, c);
-        let fewer = self.count(c) - 1;
-        let rest = self.moved_down(c, fewer).counted(c, fewer);
-        Taken {
-            byte: byte,
-            chip: rest,
-        }
-    }
-
-    // The byte `i` behind the oldest of channel `c` is `b`.
-    fn stored(self, c: u8, i: u8, b: u8) -> Self
-        requires { (c < 8) × (i < places c) }
-        ensures { Stored self c i b result }
-    {
-        let mut chip = self;
-        if i == 0 {
-            chip.oldest = word::replaced(self.oldest, c, b);
-            return chip;
-        }
-        if i == 1 {
-            chip.next = word::replaced(self.next, c, b);
-            return chip;
-        }
-        chip.later = word::replaced(self.later, i - 2, b);
-        chip
-    }
-
-    // Each of the `n` oldest bytes of channel `c` is the one behind it.
-    fn moved_down(self, c: u8, n: u8) -> Self
-        requires { (c < 8) × (n < places c) }
-        ensures { MovedDown self c n result }
-    {
-        let mut rest = self;
         if n == 0 {
-            return rest;
+            return self;
         }
-        rest.oldest = word::replaced(self.oldest, c, word::digit(self.next, c));
+        let c = channel.index;
+        let oldest = word::replaced(self.oldest, c, word::digit(self.next, c));
         if n == 1 {
-            return rest;
+            return Chip { oldest, ..self };
         }
-        rest.next = word::replaced(self.next, c, word::digit(self.later, 0));
-        rest.later = word::slid(self.later, n - 2);
-        rest
+        let next = word::replaced(self.next, c, word::digit(self.later, 0));
+        let later = word::slid(self.later, n - 2);
+        Chip {
+            oldest,
+            next,
+            later,
+            ..self
+        }
     }
 
-    // Channel `c` counted as holding `n` bytes.
-    fn counted(self, c: u8, n: u8) -> Self
-        ensures { Counted self c n result }
+    // A channel counted as holding `n` bytes.
+    fn counted(self, channel: Channel, n: u8) -> Self
+        ensures { Counted self channel.index n result }
     {
-        let mut chip = self;
-        chip.held = word::replaced(self.held, c, n);
-        chip
+        let held = word::replaced(self.held, channel.index, n);
+        Chip { held, ..self }
     }
 
-    // How many bytes channel `c` holds.
-    fn count(self, c: u8) -> u8
-        requires { c < 8 }
-        ensures { result ≡ held (chan (state_of self) c) }
+    // How many bytes a channel holds.
+    fn count(self, channel: Channel) -> u8
+        ensures { result ≡ held (chan (state_of self) channel.index) }
     {
-        word::digit(self.held, c)
+        word::digit(self.held, channel.index)
     }
 
-    // Whether a data write to channel `c` would now be taken.
-    fn has_room(self, c: u8) -> bool
-        requires { c < 8 }
-        ensures { result ≡ room (flags_of self.flags) c (held (chan (state_of self) c)) }
+    // Whether a data write to a channel would now be taken.
+    fn has_room(self, channel: Channel) -> bool
+        ensures { result ≡ room (flags_of self.flags) channel.index (held (chan (state_of self) channel.index)) }
     {
-        let flags = self.flags;
-        self.count(c) < room_limit(flags, c)
+        self.count(channel) < channel.limit(self.flags)
     }
 
-    // Whether channel `c` holds a byte.
-    fn holds_byte(self, c: u8) -> bool
-        requires { c < 8 }
-        ensures { result ≡ ltb 0 (held (chan (state_of self) c)) }
+    // Whether a channel holds a byte.
+    fn holds_byte(self, channel: Channel) -> bool
+        ensures { result ≡ ltb 0 (held (chan (state_of self) channel.index)) }
     {
-        0 < self.count(c)
+        0 < self.count(channel)
     }
 
     // N, by the flags and the bytes held in host-to-parasite R3.
     fn n_flag(self) -> bool
         ensures { result ≡ n_flag (flags_of self.flags) (held (chan (state_of self) (fed host R3))) }
     {
-        let flags = self.flags;
-        if flags::has_bit(flags, flags::V) {
-            self.count(4) == 2
+        let channel = HOST_R3.fed();
+        if flags::has_bit(self.flags, flags::V) {
+            self.count(channel) == 2
         } else {
-            self.holds_byte(4)
+            self.holds_byte(channel)
         }
     }
 
     // Bit 7 of a status.
-    fn is_ready(self, side: u8, register: u8) -> bool
-        requires { (side ≤ 1) × (register < 4) }
-        ensures { result ≡ ready (flags_of self.flags) side register (held (chan (state_of self) (toward side register))) }
+    fn is_ready(self, port: Port) -> bool
+        ensures { result ≡ ready (flags_of self.flags) (side_of port.side) (register_of port.register) (held (chan (state_of self) (toward (side_of port.side) (register_of port.register)))) }
     {
-        if is_register(side, register, 1, 2) {
+        if port == PARASITE_R3 {
             self.n_flag()
         } else {
-            self.holds_byte(towards(side, register))
+            self.holds_byte(port.toward())
         }
     }
 
     // The status of a register, as a side reads it.
-    fn status(self, side: u8, register: u8) -> u8
-        requires { (side ≤ 1) × (register < 4) }
-        ensures { result ≡ status_of (state_of self) side register }
+    fn status(self, port: Port) -> u8
+        ensures { result ≡ status_of (state_of self) (side_of port.side) (register_of port.register) }
     {
-        let flags = self.flags;
-        flags::weight(self.is_ready(side, register), 128)
-            + flags::weight(self.has_room(fed_by(side, register)), 64)
-            + flags::low_bits(flags, register)
+        flags::weight(self.is_ready(port), 128)
+            + flags::weight(self.has_room(port.fed()), 64)
+            + flags::low_bits(self.flags, port.register.number())
     }
 
     // The sum of the asserted lines.
     fn line_sum(self) -> u8
         ensures { result ≡ lines (state_of self) }
     {
-        let flags = self.flags;
         flags::weight(self.host_irq(), 1)
             + flags::weight(self.parasite_irq(), 2)
             + flags::weight(self.parasite_nmi(), 4)
-            + flags::weight(flags::has_bit(flags, flags::P), 8)
+            + flags::weight(flags::has_bit(self.flags, flags::P), 8)
     }
 
-    // Whether the flag of weight `w` is set and channel `c` holds a byte.
-    fn interrupts(self, w: u8, c: u8) -> bool
-        requires { c < 8 }
-        ensures { result ≡ (bit self.flags w && ltb 0 (held (chan (state_of self) c))) }
+    // Whether the flag of weight `w` is set and a channel holds a byte.
+    fn interrupts(self, w: u8, channel: Channel) -> bool
+        ensures { result ≡ (bit self.flags w && ltb 0 (held (chan (state_of self) channel.index))) }
     {
-        let flags = self.flags;
-        if flags::has_bit(flags, w) {
-            self.holds_byte(c)
-        } else {
-            false
-        }
+        flags::has_bit(self.flags, w) && self.holds_byte(channel)
     }
 
     fn host_irq(self) -> bool
         ensures { result ≡ host_irq (state_of self) }
     {
-        self.interrupts(flags::Q, 7)
+        self.interrupts(flags::Q, PARASITE_R4.fed())
     }
 
     fn parasite_irq(self) -> bool
         ensures { result ≡ parasite_irq (state_of self) }
     {
-        if self.interrupts(flags::I, 0) {
-            true
-        } else {
-            self.interrupts(flags::J, 6)
-        }
+        self.interrupts(flags::I, HOST_R1.fed()) || self.interrupts(flags::J, HOST_R4.fed())
     }
 
     fn parasite_nmi(self) -> bool
         ensures { result ≡ parasite_nmi (state_of self) }
     {
-        let flags = self.flags;
-        if flags::has_bit(flags, flags::M) {
-            self.n_flag()
-        } else {
-            false
+        flags::has_bit(self.flags, flags::M) && self.n_flag()
+    }
+}
+
+// A record of which no channel holds more than its capacity.
+#[derive(Clone, Copy)]
+struct Valid {
+    chip: Chip,
+    ghost valid: { valid_of chip ≡ true },
+}
+
+impl Valid {
+    // An access: the byte and the chip that it leaves.
+    fn step(self, port: Port, is_data: bool, write: bool, byte: u8) -> Result<(u8, Self), Refusal>
+        ensures { MatchResult result (λ d. StepDone self.chip (step (state_of self.chip) (side_of port.side) (request_of port is_data write byte)) d.0 d.1.chip) (λ e. StepRefused self.chip (step (state_of self.chip) (side_of port.side) (request_of port is_data write byte)) e) }
+    {
+        match (is_data, write) {
+            (true, true) => self.write_data(port.fed(), byte),
+            (true, false) => self.read_data(port.toward()),
+            (false, true) => Ok((0, self.write_status(port, byte))),
+            (false, false) => Ok((self.chip.status(port), self)),
         }
     }
-}
 
-fn answered(answer: Answer, byte: u8, chip: Chip) -> Accessed
-    ensures { result ≡ told answer byte chip }
-{
-    Accessed {
-        answer: answer,
-        byte: byte,
-        chip: chip,
+    // A data write of `b` to a channel.
+    fn write_data(self, channel: Channel, b: u8) -> Result<(u8, Self), Refusal>
+        ensures { MatchResult result (λ d. StepDone self.chip (on (state_of self.chip) channel.index (append (room (flags_of self.chip.flags) channel.index) b)) d.0 d.1.chip) (λ e. StepRefused self.chip (on (state_of self.chip) channel.index (append (room (flags_of self.chip.flags) channel.index) b)) e) }
+    {
+        if self.chip.has_room(channel) {
+            Ok((0, self.put(channel, b)))
+        } else {
+            Err(Refusal::NoRoom)
+        }
     }
-}
 
-// Whether `side` and `register` are this owner's register of this number.
-fn is_register(side: u8, register: u8, owner: u8, number: u8) -> bool
-    ensures { result ≡ (eqb side owner && eqb register number) }
-{
-    if side == owner {
-        register == number
-    } else {
-        false
+    // A data read of a channel: its oldest byte, and the chip without it.
+    fn read_data(self, channel: Channel) -> Result<(u8, Self), Refusal>
+        ensures { MatchResult result (λ d. StepDone self.chip (on (state_of self.chip) channel.index take_oldest) d.0 d.1.chip) (λ e. StepRefused self.chip (on (state_of self.chip) channel.index take_oldest) e) }
+    {
+        let Some(fewer) = self.chip.count(channel).checked_sub(1) else {
+            return Err(Refusal::Empty);
+        };
+        let byte = word::digit(self.chip.oldest, channel.index);
+        let chip = self.chip.moved_down(channel, fewer).counted(channel, fewer);
+        Ok((byte, Valid { chip }))
     }
-}
 
-// The channel of a register that a side feeds, and the one towards it.
-fn fed_by(side: u8, register: u8) -> u8
-    requires { (side ≤ 1) × (register < 4) }
-    ensures { (result ≡ fed side register) × (result < 8) }
-{
-    2 * register + side
-}
+    // A status write: control at the host's R1, and nothing elsewhere.
+    fn write_status(self, port: Port, byte: u8) -> Self
+        ensures { StepDone self.chip (done 0 (cond (eqb (side_of port.side) host && eqb (register_of port.register) R1) (controlled byte (state_of self.chip)) (state_of self.chip))) 0 result.chip }
+    {
+        if port == HOST_R1 {
+            self.control(byte)
+        } else {
+            self
+        }
+    }
 
-fn towards(side: u8, register: u8) -> u8
-    requires { (side ≤ 1) × (register < 4) }
-    ensures { (result ≡ toward side register) × (result < 8) }
-{
-    2 * register + (1 - side)
-}
+    // The chip after the control byte `x`. The clear leaves the bytes as they are.
+    fn control(self, x: u8) -> Self
+        ensures { ControlDone self.chip x result.chip }
+    {
+        let flags = flags::flags_after(x, self.chip.flags);
+        let held = if flags::is_clear(x) { 0 } else { self.chip.held };
+        let chip = Chip {
+            held,
+            flags,
+            ..self.chip
+        };
+        Valid { chip }
+    }
 
-// The number of held bytes below which a write to channel `c` is taken.
-fn room_limit(flags: u64, c: u8) -> u8
-    requires { c < 8 }
-    ensures { result ≡ limit (flags_of flags) c }
-{
-    if flags::has_bit(flags, flags::V) {
-        word::digit(CAPACITIES, c)
-    } else {
-        word::digit(LIMITS_V_CLEAR, c)
+    // A channel that has a place left with one byte more.
+    fn put(self, channel: Channel, b: u8) -> Self
+        requires { held (chan (state_of self.chip) channel.index) < capacity channel.index }
+        ensures { PutDone self.chip channel.index b result.chip }
+    {
+        let n = self.chip.count(channel);
+        let chip = self.chip.stored(channel, n, b).counted(channel, n + 1);
+        Valid { chip }
     }
 }

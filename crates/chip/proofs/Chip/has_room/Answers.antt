@@ -4,4 +4,4 @@ use Rattle.chip.proofs.Chip.has_room.Goals as goal
 
 pub returns : goal.returns
 unfolding room
-returns c = rw (c.count.ensures, c.room_limit.ensures)
+returns c = rw (c.count.ensures, c.limit.ensures)

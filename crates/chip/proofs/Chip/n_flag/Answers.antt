@@ -4,8 +4,8 @@ use Rattle.chip.proofs.Chip.n_flag.Goals as goal
 
 pub returns-then-has_bit : goal.returns-then-has_bit
 unfolding n_flag
-returns-then-has_bit c = rw (← c.has_bit.ensures, c.if-has_bit.true, c.count.ensures)
+returns-then-has_bit c = rw (← c.has_bit.ensures, c.if-has_bit.true, c.count.ensures, c.fed-channel.ensures)
 
 pub returns-else-has_bit : goal.returns-else-has_bit
 unfolding n_flag
-returns-else-has_bit c = rw (← c.has_bit.ensures, c.if-has_bit.false) c.holds_byte.ensures
+returns-else-has_bit c = rw (← c.has_bit.ensures, c.if-has_bit.false) (rw c.fed-channel.ensures at c.holds_byte.ensures)

@@ -4,4 +4,4 @@ use Rattle.chip.proofs.Chip.status.Goals as goal
 
 pub returns : goal.returns
 unfolding status
-returns c = rw (c.weight.ensures.0, c.is_ready.ensures, c.weight-2.ensures.0, c.has_room.ensures, c.fed_by.ensures.0, c.low_bits.ensures.0)
+returns c = rw (c.weight.ensures.0, c.is_ready.ensures, c.weight-2.ensures.0, c.has_room.ensures, c.fed.ensures, c.low_bits.ensures.0, c.number.ensures)
