@@ -261,8 +261,7 @@ module _ (chip s r : Chip) (k : ℕ) (small : k < 8) (ok : valid_of chip ≡ tru
       let same : (j i : ℕ) → i < places j → (j ≡ k → i < m → ⊥) → byte_of r j i ≡ byte_of chip j i = λ j i l f. here j i ∙ t.others j i l f in
       let rest : each (byte_of r k) m ≡ each (λ i. byte_of chip k (suc i)) m =
       each_same (λ i. byte_of chip k (suc i)) (byte_of r k) m (λ i l. here k i ∙ t.moved i l) in
-      let flags = u.flags ∙ t.flags in
-      (
+      let flags = u.flags ∙ t.flags in (
         chan_at chip k small ∙ ap (each (byte_of chip k)) (some ∙ add-one m) ∙ rw rest,
         record {
           state = changed_state chip r k m small ok fewer counts flags same;

@@ -1,26 +1,22 @@
 -- What the parts of an access do is the rules' outcome, and through the view the rules' access.
 use Prim.Native.Nat.{ℕ, ◌/◌, ◌%◌, ◌<◌, ◌≤◌}
 use mathlib.Core.Path.{◌≡◌, refl, sym, ◌∙◌, ap}
-use mathlib.Core.Bool.{Bool, true, false, cond, not, ◌&&◌, true≢false}
+use mathlib.Core.Bool.{Bool, true, false, cond, not, ◌&&◌}
 use mathlib.Core.List.{[], ◌∷◌}
-use lib.ListN.{length}
 use lib.Seq.{set-get_or}
-use lib.Dec.{ltb, leb, eqb}
+use lib.Dec.{leb, eqb}
 use native.Mathlib.Omega.{arith}
-use borrow.Author.Tests.{ltb-true, ltb-false, leb-true}
+use borrow.Author.Tests.{ltb-true, leb-true}
 use Rattle.chip.specs.declared.Chip.{Chip}
 use Rattle.chip.specs.declared.Refusal.{Refusal}
 use Rattle.chip.specs.declared.Refusal.TheVariants.{NoRoom, Empty}
-use Rattle.chip.specs.declared.Register.{Register}
-use Rattle.chip.specs.declared.Side.{Side}
-use Rattle.chip.specs.declared.Side.TheVariants.{Host, Parasite}
 use Rattle.flags.specs.Flags.{flags_of, FlagsAfter}
 use Rattle.word.specs.Word.{power, digit}
 use Rattle.chip.specs.Record.{byte_of, count_of, state_of, valid_of}
 use Rattle.chip.specs.Promise.{number, UnusedKept, AccessDone}
-use Rattle.chip.specs.Steps.{side_of, register_of, ServedDone, ServedRefused, StepDone, StepRefused, PutDone, ControlDone}
+use Rattle.chip.specs.Steps.{StepDone, PutDone, ControlDone}
 use Rattle.chip_rules.specs.State.{Channel, State, Outcome, R3, held, chan, put, Access, done, refused}
-use Rattle.chip_rules.specs.Rules.{bit, capacity, room, limit, decode, exists, clears, emptied, controlled, take_oldest, append, on, step, perform}
+use Rattle.chip_rules.specs.Rules.{bit, capacity, room, limit, exists, clears, emptied, take_oldest, append, on, step, perform}
 use Rattle.chip_rules.specs.History.{View, sound}
 use Rattle.chip_rules.proofs.Laws.{by_side, by_none, request}
 use Rattle.chip.specs.Each.{each}
@@ -60,7 +56,7 @@ module _ (chip : Chip) (k : ℕ) where
   wrote b next has p = rw has (record { outcome = ap (done 0) (sym p.state); free = p.free })
 
   pub full : (b : ℕ) → room (flags_of chip.flags) k (held (chan (state_of chip) k)) ≡ false
-      → StepRefused chip (on (state_of chip) k (append (room (flags_of chip.flags) k) b)) NoRoom
+      → on (state_of chip) k (append (room (flags_of chip.flags) k) b) ≡ refused (number NoRoom) (state_of chip)
   unfolding append
   full b has = rw has (ap (refused 2) (sym (put_same (state_of chip) k)))
 
@@ -69,7 +65,7 @@ module _ (chip : Chip) (k : ℕ) where
   unfolding take_oldest
   took b l next e t = rw e (record { outcome = ap (done b) (sym t.state); free = t.free })
 
-  pub none : k < 8 → count_of chip k ≡ 0 → StepRefused chip (on (state_of chip) k take_oldest) Empty
+  pub none : k < 8 → count_of chip k ≡ 0 → on (state_of chip) k take_oldest ≡ refused (number Empty) (state_of chip)
   unfolding take_oldest
   none small h =
       let e : chan (state_of chip) k ≡ [] = chan_at chip k small ∙ ap (each (byte_of chip k)) h in
@@ -95,7 +91,7 @@ module _ (chip v : Chip) (a : Access) (s r : ℕ) (same : v ≡ chip) (ok : vali
   ruled o h = by_side (state_of chip) a x ∙ (rw (same, e, f) at h)
 
   pub done_as_ruled : (b : ℕ) (next : Chip) → valid_of next ≡ true
-      → StepDone v (step (state_of v) s (request (eqb (a.offset % 2) 1) a.write r a.byte)) b next → ServedDone chip a b next
+      → StepDone v (step (state_of v) s (request (eqb (a.offset % 2) 1) a.write r a.byte)) b next → AccessDone chip a (record { answer = 0; byte = b }) next
   done_as_ruled b next ok' d =
       let p = ruled (done b (state_of next)) d.outcome in
       let k : valid_of chip ≡ true = rw same at ok in
@@ -106,7 +102,7 @@ module _ (chip v : Chip) (a : Access) (s r : ℕ) (same : v ≡ chip) (ok : vali
         free = rw same at d.free;
       }
 
-  pub refused_as_ruled : (n : Refusal) → StepRefused v (step (state_of v) s (request (eqb (a.offset % 2) 1) a.write r a.byte)) n → ServedRefused chip a n
+  pub refused_as_ruled : (n : Refusal) → step (state_of v) s (request (eqb (a.offset % 2) 1) a.write r a.byte) ≡ refused (number n) (state_of v) → AccessDone chip a (record { answer = number n; byte = 0 }) chip
   refused_as_ruled n d =
       let p = ruled (refused (number n) (state_of chip)) (d ∙ ap (λ (k : Chip). refused (number n) (state_of k)) same) in
       let k : valid_of chip ≡ true = rw same at ok in

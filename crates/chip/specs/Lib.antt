@@ -2,3 +2,4 @@ pub mod Each
 pub mod Record
 pub mod Promise
 pub mod Steps
+pub mod Stepped

@@ -2,14 +2,13 @@
 use Rattle.std.specs.Prelude.{ℕ, suc, ◌<◌, ◌≡◌, Bool, [], ◌∷◌, ◌++◌}
 use Rattle.chip.specs.declared.Chip.{Chip}
 use Rattle.chip.specs.declared.Port.{Port}
-use Rattle.chip.specs.declared.Refusal.{Refusal}
 use Rattle.chip.specs.declared.Register.{Register}
 use Rattle.chip.specs.declared.Register.TheVariants.{R1, R2, R3, R4}
 use Rattle.chip.specs.declared.Side.{Side}
 use Rattle.chip.specs.declared.Side.TheVariants.{Host, Parasite}
 use Rattle.chip.specs.Record.{places, byte_of, state_of}
-use Rattle.chip.specs.Promise.{number, AccessDone, UnusedKept}
-use Rattle.chip_rules.specs.State.{chan, put, done, refused, Access, Outcome}
+use Rattle.chip.specs.Promise.{UnusedKept}
+use Rattle.chip_rules.specs.State.{chan, put, done, Outcome}
 use Rattle.chip_rules.specs.Rules.{Request, controlled}
 use Rattle.word.specs.Word.{Replaced}
 
@@ -28,21 +27,10 @@ abbrev pub request_of : Port → Bool → Bool → ℕ → Request
 request_of port is_data write byte =
     record { register = register_of port.register; is_data = is_data; write = write; byte = byte }
 
--- What `served` promises of an access that is done and of one that is refused.
-abbrev pub ServedDone : Chip → Access → ℕ → Chip → Type 0
-ServedDone chip a byte next = AccessDone chip a (record { answer = 0; byte = byte }) next
-
-abbrev pub ServedRefused : Chip → Access → Refusal → Type 0
-ServedRefused chip a e = AccessDone chip a (record { answer = number e; byte = 0 }) chip
-
--- What the parts of `access` promise of a record that holds no more than its places: the rules' outcome is done, with this byte and this
--- record left, or refused.
+-- the rules' outcome is done, with this byte and this record left
 pub record StepDone (chip : Chip) (o : Outcome) (byte : ℕ) (next : Chip) : Type 0 where
   pub outcome : o ≡ done byte (state_of next)
   pub free : UnusedKept chip next
-
-abbrev pub StepRefused : Chip → Outcome → Refusal → Type 0
-StepRefused chip o e = o ≡ refused (number e) (state_of chip)
 
 -- the byte i behind the oldest of channel c is b
 pub record Stored (chip : Chip) (c i b : ℕ) (r : Chip) : Type 0 where

@@ -8,7 +8,7 @@ ghost use Rattle.chip_rules.specs.History.{line_value};
 ghost use Rattle.flags.specs.Flags.{flags_of};
 ghost use Rattle.chip.specs.Record.{places, state_of, valid_of, view, blank};
 ghost use Rattle.chip.specs.Promise.{number, access_of, reply_of, AccessDone, ResetDone};
-ghost use Rattle.chip.specs.Steps.{side_of, register_of, request_of, StepDone, StepRefused, ServedDone, ServedRefused, Stored, MovedDown, Counted, PutDone, ControlDone};
+ghost use Rattle.chip.specs.Steps.{side_of, register_of, request_of, StepDone, Stored, MovedDown, Counted, PutDone, ControlDone};
 
 // A record of words, so that an access changes registers and no array in memory. Channels are numbered register by register,
 // host-to-parasite first. Byte c of `held` counts the bytes of channel c; byte c of `oldest` is its oldest and byte c of `next` the one
@@ -209,6 +209,8 @@ impl Channel {
 }
 
 impl Chip {
+    ghost use Rattle.chip.specs.Stepped.{Served};
+
     // What parasite-to-host R1, R3 either way, and every other channel hold.
     pub const R1_CAPACITY: u8 = 10;
 
@@ -260,14 +262,8 @@ impl Chip {
     }
 
     // The byte and the chip that an access leaves.
-    fn served(
-        self,
-        side: u8,
-        offset: u8,
-        write: bool,
-        byte: u8,
-    ) -> Result<(u8, Valid), Refusal>
-        ensures { MatchResult result (λ d. ServedDone self (access_of side offset write byte) d.0 d.1.chip) (λ e. ServedRefused self (access_of side offset write byte) e) }
+    fn served(self, side: u8, offset: u8, write: bool, byte: u8) -> Result<(u8, Valid), Refusal>
+        ensures { Served self (access_of side offset write byte) result }
     {
         let side = Side::try_from(side)?;
         let register = Register::try_from(offset / 2)?;
@@ -442,9 +438,11 @@ struct Valid {
 }
 
 impl Valid {
+    ghost use Rattle.chip.specs.Stepped.{Stepped};
+
     // An access: the byte and the chip that it leaves.
     fn step(self, port: Port, is_data: bool, write: bool, byte: u8) -> Result<(u8, Self), Refusal>
-        ensures { MatchResult result (λ d. StepDone self.chip (step (state_of self.chip) (side_of port.side) (request_of port is_data write byte)) d.0 d.1.chip) (λ e. StepRefused self.chip (step (state_of self.chip) (side_of port.side) (request_of port is_data write byte)) e) }
+        ensures { Stepped self.chip (step (state_of self.chip) (side_of port.side) (request_of port is_data write byte)) result }
     {
         match (is_data, write) {
             (true, true) => self.write_data(port.fed(), byte),
@@ -456,7 +454,7 @@ impl Valid {
 
     // A data write of `b` to a channel.
     fn write_data(self, channel: Channel, b: u8) -> Result<(u8, Self), Refusal>
-        ensures { MatchResult result (λ d. StepDone self.chip (on (state_of self.chip) channel.index (append (room (flags_of self.chip.flags) channel.index) b)) d.0 d.1.chip) (λ e. StepRefused self.chip (on (state_of self.chip) channel.index (append (room (flags_of self.chip.flags) channel.index) b)) e) }
+        ensures { Stepped self.chip (on (state_of self.chip) channel.index (append (room (flags_of self.chip.flags) channel.index) b)) result }
     {
         if self.chip.has_room(channel) {
             Ok((0, self.put(channel, b)))
@@ -467,7 +465,7 @@ impl Valid {
 
     // A data read of a channel: its oldest byte, and the chip without it.
     fn read_data(self, channel: Channel) -> Result<(u8, Self), Refusal>
-        ensures { MatchResult result (λ d. StepDone self.chip (on (state_of self.chip) channel.index take_oldest) d.0 d.1.chip) (λ e. StepRefused self.chip (on (state_of self.chip) channel.index take_oldest) e) }
+        ensures { Stepped self.chip (on (state_of self.chip) channel.index take_oldest) result }
     {
         let Some(fewer) = self.chip.count(channel).checked_sub(1) else {
             return Err(Refusal::Empty);
@@ -492,14 +490,16 @@ impl Valid {
     fn control(self, x: u8) -> Self
         ensures { ControlDone self.chip x result.chip }
     {
-        let flags = flags::flags_after(x, self.chip.flags);
-        let held = if flags::is_clear(x) { 0 } else { self.chip.held };
-        let chip = Chip {
-            held,
-            flags,
-            ..self.chip
-        };
-        Valid { chip }
+        let chip = self.chip;
+        let flags = flags::flags_after(x, chip.flags);
+        let held = if flags::is_clear(x) { 0 } else { chip.held };
+        Valid {
+            chip: Chip {
+                held,
+                flags,
+                ..chip
+            },
+        }
     }
 
     // A channel that has a place left with one byte more.

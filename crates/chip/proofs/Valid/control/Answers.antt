@@ -11,13 +11,13 @@ pub invariant_of-result : goal.invariant_of-result
 unfolding valid_of capacity digit power
 invariant_of-result c =
     elim c.if-is_clear.branch [
-      then-is_clear w ↦ record { valid = rw w.held-is }
+      | then-is_clear w ↦ record { valid = rw w.held-is }
       | else-is_clear w ↦ record { valid = rw w.held-is c.args.self.valid }
     ]
 
 pub returns : goal.returns
 returns c =
     elim c.if-is_clear.branch [
-      then-is_clear w ↦ rw w.held-is (clear_done c.args.self.chip c.args.x c.flags_after-flags.result c.flags_after-flags.ensures (sym c.is_clear.ensures ∙ w.if-is_clear.true))
+      | then-is_clear w ↦ rw w.held-is (clear_done c.args.self.chip c.args.x c.flags_after-flags.result c.flags_after-flags.ensures (sym c.is_clear.ensures ∙ w.if-is_clear.true))
       | else-is_clear w ↦ rw w.held-is (control_done c.args.self.chip c.args.x c.flags_after-flags.result c.flags_after-flags.ensures (sym c.is_clear.ensures ∙ w.if-is_clear.false))
     ]

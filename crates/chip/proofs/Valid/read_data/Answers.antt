@@ -2,11 +2,10 @@
 use Rattle.chip.proofs.Parts.{Left, within, take_done}
 use Rattle.chip.proofs.Steps.{took, none}
 use Rattle.chip.specs.Each.{each}
-use Rattle.chip.specs.Record.{byte_of, count_of, state_of}
+use Rattle.chip.specs.Record.{byte_of, state_of}
 use Rattle.chip_rules.specs.State.{chan}
 use Rattle.word.specs.Word.{digit}
-use Prim.Native.Nat.{◌+◌, ◌≤◌}
-use mathlib.Core.Path.{◌≡◌, sym, ◌∙◌}
+use mathlib.Core.Path.{◌≡◌}
 use mathlib.Core.List.{◌∷◌}
 use native.Mathlib.Omega.{arith}
 use Rattle.chip.proofs.Valid.read_data.Goals as goal
