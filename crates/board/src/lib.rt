@@ -17,37 +17,16 @@ pub struct Reply {
     pub byte: u8,
 }
 
-// The chip stands last.
-#[derive(Clone, Copy)]
-pub struct Stepped {
-    pub reply: Reply,
-    pub chip: Chip,
-}
-
-// One access by value, its answer by number. Operation 0 reads, any other number writes.
-pub fn step(chip: Chip, side: u8, offset: u8, operation: u8, byte: u8) -> Stepped
-    ensures { AccessDone chip (access_of side offset (writes operation) byte) (replied result.reply) result.chip }
-{
-    let a = chip.access(side, offset, operation != 0, byte);
-    let answer = a.answer;
-    let reply = Reply {
-        answer: answer.number(),
-        byte: a.byte,
-    };
-    let next = a.chip;
-    Stepped {
-        reply: reply,
-        chip: next,
-    }
-}
-
-// The thin entry: the chip is lent, stepped by value and stored.
+// The thin entry: the chip is lent, accessed by value and stored. Operation 0 reads, any other number writes.
 pub fn tube_access(chip: &mut Chip, side: u8, offset: u8, operation: u8, byte: u8) -> Reply
     ensures { AccessDone chip.old (access_of side offset (writes operation) byte) (replied result) chip.new }
 {
-    let a = step(*chip, side, offset, operation, byte);
+    let a = chip.access(side, offset, operation != 0, byte);
     *chip = a.chip;
-    a.reply
+    Reply {
+        answer: a.number(),
+        byte: a.byte(),
+    }
 }
 
 // A fresh chip: see `chip::Chip::new`.
