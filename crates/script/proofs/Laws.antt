@@ -20,7 +20,7 @@ use Rattle.chip_rules.proofs.History.{replies_append}
 use Rattle.chip_rules.proofs.Trace.{trace_append}
 use Rattle.script.specs.declared.Stepped.{Stepped}
 use Rattle.script.specs.Script.{event_of, records, final_answer, results_of, Done, StepDone, RecordsDone, fits, PlayDone}
-use Rattle.script_end.specs.Ending.{ending}
+use Rattle.script_end.specs.Ending.{ending, number}
 
 -- the record at place i
 abbrev pub event_at : List ℕ → ℕ → Event
@@ -121,7 +121,7 @@ one_more chip c script before left i t h g d u =
 -- What a limit allows: n records of a script, and what is left of both gives the final answer.
 pub record Allowed (limit n : ℕ) (s : List ℕ) : Type 0 where
   pub events : records limit s ≡ records n s
-  pub answer : final_answer limit s ≡ ending (length s - 3 * n) (limit - n)
+  pub answer : final_answer limit s ≡ number (ending (length s - 3 * n) (limit - n))
 
 pub allowed : (limit n : ℕ) (s : List ℕ) → n ≤ limit → 3 * n ≤ length s → (n < limit → length s < 3 * n + 3) → Allowed limit n s
 unfolding records final_answer
@@ -158,14 +158,15 @@ module _ (chip : Chip) (script : List ℕ) (limit n : ℕ) (before : List ℕ) (
       let no : leb (3 * length (records limit script)) (length before) ≡ false = rw count (lt-leb (3 * n) (length before) h) in
       record { count = rw no; answer = rw no; state = rw no; steps = rw no stop; results = rw no }
 
-  pub all_played : (c : Chip) (a : ℕ) (left : List ℕ) → 3 * n ≤ length before → a ≡ ending (length script - 3 * n) (limit - n)
-      → RecordsDone chip script n before c left → PlayDone chip script limit before (record { played = n; answer = a; chip = c }) left
+  pub all_played : (c : Chip) (left : List ℕ) → 3 * n ≤ length before
+      → RecordsDone chip script n before c left
+      → PlayDone chip script limit before (record { played = n; answer = number (ending (length script - 3 * n) (limit - n)); chip = c }) left
   unfolding fits
-  all_played c a left h e d =
+  all_played c left h d =
       let yes : leb (3 * length (records limit script)) (length before) ≡ true = rw count (le-leb (3 * n) (length before) h) in
       record {
         count = rw (yes, count);
-        answer = rw (yes, w.answer) e;
+        answer = rw (yes, w.answer);
         state = rw (yes, w.events) (end d.steps);
         steps = rw (yes, w.events) d.steps;
         results = rw (yes, count, w.events) d.results;

@@ -5,6 +5,7 @@ ghost use Rattle.std.specs.Prelude.{◌*◌, ◌≤◌, length};
 ghost use Rattle.script.specs.Script.{event_of, StepDone, RecordsDone, PlayDone};
 
 use chip::Chip;
+use script_end::Ending;
 
 // What one record gives: the number of the answer, the byte, the line value after it, and the chip.
 #[derive(Clone, Copy)]
@@ -33,15 +34,15 @@ pub fn play(chip: Chip, script: &[u8], limit: usize, results: &mut [u8]) -> Play
     if results.len() < 3 * n {
         return Played {
             played: 0,
-            answer: 8,
-            chip: chip,
+            answer: Ending::NoRoom.number(),
+            chip,
         };
     }
     let after = play_records(chip, script, n, results);
-    let answer = script_end::final_answer(script.len() - 3 * n, limit - n);
+    let ending = Ending::of_rest(script.len() - 3 * n, limit - n);
     Played {
         played: n,
-        answer: answer,
+        answer: ending.number(),
         chip: after,
     }
 }
@@ -51,41 +52,35 @@ pub fn step(chip: Chip, kind: u8, offset: u8, byte: u8) -> Stepped
     ensures { StepDone chip (event_of kind offset byte) result }
 {
     if kind == 4 {
-        let fresh = chip.reset();
+        let chip = chip.reset();
         return Stepped {
             answer: 0,
             byte: 0,
-            lines: fresh.lines(),
-            chip: fresh,
+            lines: chip.lines(),
+            chip,
         };
     }
     let a = chip.access(kind / 2, offset, kind % 2 == 1, byte);
-    let answer = a.answer;
-    let after = a.chip;
     Stepped {
-        answer: answer.number(),
-        byte: a.byte,
-        lines: after.lines(),
-        chip: after,
+        answer: a.number(),
+        byte: a.byte(),
+        lines: a.chip.lines(),
+        chip: a.chip,
     }
 }
 
 // Plays the first `n` records, which are there, into three result bytes each, for which there is room.
-fn play_records(chip: Chip, script: &[u8], n: usize, results: &mut [u8]) -> Chip
+fn play_records(mut chip: Chip, script: &[u8], n: usize, results: &mut [u8]) -> Chip
     requires { (3 * n ≤ length script.now) × (3 * n ≤ length results.old) }
     ensures { RecordsDone chip script.now n results.old result results.new }
 {
-    let mut c = chip;
-    let mut i: usize = 0;
-    while i < n {
+    for i in 0..n {
         let at = 3 * i;
-        let s = step(c, script[at], script[at + 1], script[at + 2]);
+        let s = step(chip, script[at], script[at + 1], script[at + 2]);
         results[at] = s.answer;
         results[at + 1] = s.byte;
         results[at + 2] = s.lines;
-        let next = s.chip;
-        c = next;
-        i += 1;
+        chip = s.chip;
     }
-    c
+    chip
 }

@@ -7,8 +7,10 @@ use borrow.Author.Tests.{eq-eqb, ne_eqb}
 use Rattle.script.proofs.step.Goals as goal
 
 pub returns-then-kind-eq4 : goal.returns-then-kind-eq4
-returns-then-kind-eq4 c = rw (eq-eqb _ _ c.if-kind-eq4.true) (step_reset c.args.chip c.reset-fresh.result c.lines.result c.reset-fresh.ensures c.lines.ensures)
+returns-then-kind-eq4 c = rw (eq-eqb _ _ c.if-kind-eq4.true) (step_reset c.args.chip c.reset-chip.result c.lines.result c.reset-chip.ensures c.lines.ensures)
 
 pub returns : goal.returns
 returns c =
-    rw (ne_eqb _ _ c.if-kind-eq4.false, c.number.ensures) (step_access c.args.chip c.access-a.result.chip (access_of (c.args.kind / 2) c.args.offset (eqb (c.args.kind % 2) 1) c.args.byte) (reply_of c.access-a.result) c.lines-2.result c.access-a.ensures c.lines-2.ensures)
+    let a = c.args in
+    rw (ne_eqb _ _ c.if-kind-eq4.false, c.number.ensures, c.byte.ensures)
+    (step_access a.chip c.access-a.result.chip (access_of (a.kind / 2) a.offset (eqb (a.kind % 2) 1) a.byte) (reply_of c.access-a.result) c.lines-2.result c.access-a.ensures c.lines-2.ensures)
