@@ -3,9 +3,9 @@ use Prim.Native.Nat.{ℕ, zero, suc, ◌+◌, ◌*◌, ◌/◌, ◌%◌, ◌-◌
 use native.Mathlib.Omega.{arith}
 use native.Mathlib.Nat.{pow-suc}
 use borrow.Author.Tests.{ltb-true, ltb-false, lt-ltb, le-ltb}
-use mathlib.Core.Bool.{Bool, true, false}
+use mathlib.Core.Bool.{Bool, true, false, cond}
 use mathlib.Core.Logic.{◌⊎◌, inl, inr}
-use mathlib.Core.Path.{◌≡◌, refl}
+use mathlib.Core.Path.{◌≡◌, refl, ap, sym, ◌∙◌}
 use mathlib.Core.List.Memᴰ
 use mathlib.Core.List.{List, [], ◌∷◌, ◌++◌, Memᴰ}
 use lib.Dec.{ltb}
@@ -22,6 +22,20 @@ pub digits_more : (k n : ℕ) → 0 < k → 10 ≤ n → digits_of k n ≡ digit
 unfolding digits_of
 digits_more zero n h₁ h₂ = absurd (omega arith)
 digits_more (suc k) n h₁ h₂ = let e : suc k - 1 ≡ k = omega arith in rw (le-ltb n 10 h₂, e)
+
+-- where k digits are enough, one more changes nothing
+digits_enough : (k n : ℕ) → n < 10 ^ suc k → digits_of (suc (suc k)) n ≡ digits_of (suc k) n
+unfolding digits_of
+digits_enough zero n h = let l : n < 10 = omega arith in rw (lt-ltb n 10 l)
+digits_enough (suc k) n h =
+    ap (λ (l : List ℕ). cond (ltb n 10) ((48 + n % 10) ∷ []) (l ++ ((48 + n % 10) ∷ []))) (digits_enough k (n / 10) (omega (arith, pow-suc 10 (suc k))))
+
+-- the digits of a number of 64 bits, by its last digit
+pub decimal_few : (n : ℕ) → n < 10 → decimal n ≡ (48 + n % 10) ∷ []
+decimal_few n h = digits_few 20 n (omega arith) h
+
+pub decimal_more : (n : ℕ) → 10 ≤ n → n < 2 ^ 64 → decimal n ≡ decimal (n / 10) ++ ((48 + n % 10) ∷ [])
+decimal_more n h m = digits_more 20 n (omega arith) h ∙ ap (λ (l : List ℕ). l ++ ((48 + n % 10) ∷ [])) (sym (digits_enough 18 (n / 10) (omega arith)))
 
 -- What holds of no digit, of one digit and of one digit more holds of the digits of every number.
 digits_induct : (P : ℕ → ℕ → List ℕ → Type 0)

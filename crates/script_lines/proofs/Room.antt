@@ -2,9 +2,9 @@
 -- at most 13 bytes.
 use Prim.Native.Nat.{ℕ, zero, suc, ◌+◌, ◌*◌, ◌≤◌, ◌<◌}
 use native.Mathlib.Omega.{arith}
-use borrow.Author.Tests.{le-leb, lt-leb}
-use mathlib.Core.Bool.{Bool, false, ◌&&◌}
-use mathlib.Core.Path.{◌≡◌, refl, ap, ◌∙◌}
+use borrow.Author.Tests.{le-leb}
+use mathlib.Core.Bool.{Bool, ◌&&◌}
+use mathlib.Core.Path.{◌≡◌, ap, ◌∙◌}
 use mathlib.Core.List.{List, [], ◌∷◌}
 use lib.Dec.{leb}
 use lib.ListN.{length, get_or, length-append}
@@ -40,9 +40,6 @@ module _ (results : List ℕ) (played answer room : ℕ) where
   pub text_length : length (text_of results played answer) ≡ length (lines_of played results) + length (end_of played answer)
   unfolding text_of
   text_length = simp length-append
-
-  pub too_few : length results < 3 * played → false ≡ (leb (3 * played) (length results) && leb (length (text_of results played answer)) room)
-  too_few h = rw (lt-leb (3 * played) (length results) h) refl
 
   pub as_told : {last : ℕ} {b : Bool} → 3 * played ≤ length results → last ≡ length (end_of played answer) → b ≡ leb (length (lines_of played results) + last) room
       → b ≡ (leb (3 * played) (length results) && leb (length (text_of results played answer)) room)

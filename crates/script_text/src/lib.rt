@@ -2,13 +2,10 @@
 #![tactic(auto)]
 
 ghost use Rattle.std.specs.Prelude.{◌+◌, ◌*◌, ◌≤◌, [], ◌∷◌, length};
-ghost use Rattle.script_lines.specs.Text.{digits_of, line_of, lines_of, end_of};
+ghost use Rattle.script_lines.specs.Text.{decimal, line_of, lines_of, end_of};
 ghost use Rattle.script_lines.specs.Fields.{end_word, field_of};
 ghost use Rattle.script_text.specs.Text.{TextDone};
 ghost use Rattle.script_text.specs.Write.{Wrote};
-
-// A number of 64 bits has at most 20 decimal digits.
-const DIGITS: usize = 20;
 
 // The text of `played` results of three bytes each and the last line, written into `out`: its length; or 0, with nothing written,
 // where `out` is too short for the whole text or `results` holds fewer.
@@ -30,12 +27,10 @@ fn put_lines(results: &[u8], n: usize, out: &mut [u8]) -> usize
     requires room { length (lines_of n results.now) ≤ length out.old }
     ensures { Wrote 0 (lines_of n results.now) out.old out.new result }
 {
-    let mut at: usize = 0;
-    let mut i: usize = 0;
-    while i < n {
+    let mut at = 0;
+    for i in 0..n {
         let from = 3 * i;
         at = put_line(out, at, results[from], results[from + 1], results[from + 2]);
-        i += 1;
     }
     at
 }
@@ -63,10 +58,8 @@ fn put_end_word(out: &mut [u8], at: usize) -> usize
     requires { at + 4 ≤ length out.old }
     ensures { Wrote at end_word out.old out.new result }
 {
-    let a = put_byte(out, at, b'e');
-    let b = put_byte(out, a, b'n');
-    let c = put_byte(out, b, b'd');
-    put_byte(out, c, b' ')
+    out[at..at + 4].copy_from_slice(b"end ");
+    at + 4
 }
 
 // A number in decimal, and the byte that ends it.
@@ -74,23 +67,19 @@ fn put_field(out: &mut [u8], at: usize, n: usize, end: u8) -> usize
     requires { at + length (field_of n end) ≤ length out.old }
     ensures { Wrote at (field_of n end) out.old out.new result }
 {
-    let a = put_digits(out, at, DIGITS, n);
+    let a = put_digits(out, at, n);
     put_byte(out, a, end)
 }
 
-// The last k decimal digits of n, or all of them where it has fewer.
-fn put_digits(out: &mut [u8], at: usize, k: usize, n: usize) -> usize
-    requires { at + length (digits_of k n) ≤ length out.old }
-    ensures { Wrote at (digits_of k n) out.old out.new result }
+fn put_digits(out: &mut [u8], at: usize, n: usize) -> usize
+    requires { at + length (decimal n) ≤ length out.old }
+    ensures { Wrote at (decimal n) out.old out.new result }
 {
-    if k == 0 {
-        return at;
-    }
-    let digit = 48 + (n % 10) as u8;
+    let digit = b'0' + (n % 10) as u8;
     if n < 10 {
         return put_byte(out, at, digit);
     }
-    let a = put_digits(out, at, k - 1, n / 10);
+    let a = put_digits(out, at, n / 10);
     put_byte(out, a, digit)
 }
 

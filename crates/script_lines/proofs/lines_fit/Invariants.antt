@@ -2,12 +2,9 @@
 -- the lines of all records do not fit.
 use mathlib.Core.Path.{◌≡◌}
 use lib.ListN.{length}
-use Prim.Native.Nat.{◌≤◌, ◌+◌, ◌-◌}
+use Prim.Native.Nat.{◌+◌}
 use Rattle.script_lines.specs.Text.{lines_of}
 use Rattle.script_lines.proofs.lines_fit.Given as goal
 
 abbrev pub invariant-loop-i : goal.invariant-loop-i
-invariant-loop-i l = (l.i ≤ l.n) × (l.left + length (lines_of l.i l.results) + l.more ≡ l.room)
-
-abbrev pub decreases-loop-i : goal.decreases-loop-i
-decreases-loop-i l = l.n - l.i
+invariant-loop-i l = l.left + length (lines_of l.i l.results) + l.more ≡ l.room

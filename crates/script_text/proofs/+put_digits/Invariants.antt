@@ -1,5 +1,5 @@
--- The recursion writes as `digits_of` makes the digits, k falling.
+-- The recursion writes the digits before the last, n falling.
 use Rattle.script_text.proofs.+put_digits.Given as goal
 
 abbrev pub decreases-put_digits : goal.decreases-put_digits
-decreases-put_digits l = l.k
+decreases-put_digits l = l.n

@@ -1,6 +1,5 @@
 -- Turn i has written the lines of the first i records; the next line fits, since all do.
 use native.Mathlib.Omega.{arith}
-use mathlib.Core.Path.{◌≡◌}
 use Rattle.script_lines.specs.Text.{lines_of}
 use Rattle.script_text.proofs.Writers.{wrote_then, wrote_nothing}
 use Rattle.script_lines.proofs.Lines.{nth, lines_snoc, lines_room}
@@ -8,7 +7,7 @@ use Rattle.script_text.proofs.put_lines.Goals as goal
 
 pub loop-i-init : goal.loop-i-init
 unfolding lines_of
-loop-i-init c = (omega arith, wrote_nothing 0 _ (omega arith))
+loop-i-init c = wrote_nothing 0 _ (omega arith)
 
 pub put_line-at-requires : goal.put_line-at-requires
 unfolding nth
@@ -21,9 +20,4 @@ unfolding nth
 loop-i-preserved c =
     let a = c.args in
     let l = c.loop-i in
-    (omega arith, rw (lines_snoc l.i a.results.now (omega arith)) (wrote_then l.invariant.1 c.put_line-at.ensures))
-
-pub returns : goal.returns
-returns c =
-    let e : c.loop-i.i ≡ c.args.n = omega arith in
-    rw (← e) c.loop-i.invariant.1
+    rw (lines_snoc l.i a.results.now (omega arith)) (wrote_then l.invariant c.put_line-at.ensures)

@@ -4,14 +4,11 @@ use Rattle.script_text.proofs.Writers.{wrote_then}
 use Rattle.script_text.proofs.Done.{held, enough, short, full}
 use Rattle.script_text.proofs.write_text.Goals as goal
 
-pub put_lines-at-requires : goal.put_lines-at-requires
-put_lines-at-requires c =
+pub put_lines-at-requires-clause-room : goal.put_lines-at-requires-clause-room
+put_lines-at-requires-clause-room c =
     let a = c.args in
     let h = enough a.results.now a.played a.answer a.out.now c.text_fits.ensures c.if-text_fits.true in
-    record {
-      records = held a.results.now a.played a.answer a.out.now c.text_fits.ensures c.if-text_fits.true;
-      room = omega arith;
-    }
+    omega arith
 
 pub put_end-requires : goal.put_end-requires
 put_end-requires c =
