@@ -1,16 +1,18 @@
 // Plays the script of standard input on a fresh chip and writes its text to standard output.
 #![tactic(auto)]
 
-ghost use Rattle.std.specs.Prelude.{◌≤◌, length};
+ghost use Rattle.std.specs.Prelude.{◌≤◌, length, take};
+ghost use Rattle.std.specs.Io.KnownBytes.{Consumes};
 
 use chip::Chip;
 use std::io;
 use std::io::{Read, Write};
 
-// Reads until the script is full or the input ends; returns how many bytes came. A failed read counts as the end of the input. Each turn but the
-// last reads one byte at least.
+// Reads until the script is full or the input ends; returns how many bytes came, which are the next of the input. A failed read counts as the
+// end of the input. Each turn but the last reads one byte at least.
 fn read_script<R: Read>(input: &mut R, script: &mut [u8]) -> usize
-    ensures { result ≤ length script.new }
+    ensures within { result ≤ length script.new }
+    ensures bytes { Consumes (R.remaining input.old) (R.remaining input.new) (take result script.new) }
 {
     let mut got = 0;
     for _ in 0..script.len() {
