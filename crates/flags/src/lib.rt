@@ -22,10 +22,7 @@ pub const Q: u8 = 1;
 pub fn has_bit(x: u64, w: u8) -> bool
     ensures { result ≡ bit x w }
 {
-    if w == 0 {
-        return false;
-    }
-    x / w as u64 % 2 == 1
+    w != 0 && x / w as u64 % 2 == 1
 }
 
 // The weight of a bit that is set, else 0.
@@ -51,11 +48,7 @@ pub fn low_bits(flags: u64, register: u8) -> u8
 pub fn is_clear(x: u8) -> bool
     ensures { result ≡ clears x }
 {
-    if has_bit(x as u64, 128) {
-        has_bit(x as u64, 64)
-    } else {
-        false
-    }
+    has_bit(x as u64, 128) && has_bit(x as u64, 64)
 }
 
 // The flags after the control byte `x`.

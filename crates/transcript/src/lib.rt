@@ -13,7 +13,7 @@ const LIMIT: usize = 4096;
 pub fn transcript(chip: Chip, script: &[u8], out: &mut [u8]) -> usize
     ensures { TranscriptDone chip script.now out.old result out.new }
 {
-    let mut results = [0u8; 12288];
+    let mut results = [0u8; 3 * LIMIT];
     let end = script::play(chip, script, LIMIT, &mut results);
     script_text::write_text(&results, end.played, end.answer, out)
 }

@@ -1,6 +1,5 @@
 -- What the digit weighs is exchanged for what `b` weighs.
 use Rattle.word.proofs.Digits.{replaced, replaced_fits, weight_most, weight_fits}
-use mathlib.Core.Path.{refl}
 use native.Mathlib.Omega.{arith}
 use Rattle.word.proofs.replaced.Goals as goal
 
@@ -21,6 +20,3 @@ overflow_add-result c =
 
 pub returns-then-i-lt8 : goal.returns-then-i-lt8
 returns-then-i-lt8 c = let a = c.args in rw (c.digit.ensures, c.power-p.ensures) (replaced a.w a.i a.b (omega arith))
-
-pub returns-else-i-lt8 : goal.returns-else-i-lt8
-returns-else-i-lt8 c = record { at = λ h. absurd (omega arith); others = λ j n. refl }

@@ -1,6 +1,5 @@
 -- Below the weight of digit `n` the word one digit down, above it the word itself.
 use Rattle.word.proofs.Digits.{slid, slid_fits, all_slid, power_some}
-use native.Mathlib.Nat.{mod-le}
 use native.Mathlib.Omega.{arith}
 use Rattle.word.proofs.slid.Goals as goal
 
@@ -9,9 +8,6 @@ nonzero_rem-below c = rw c.power-p.ensures (power_some c.args.n)
 
 pub nonzero_rem-kept : goal.nonzero_rem-kept
 nonzero_rem-kept c = rw c.power-p.ensures (power_some c.args.n)
-
-pub overflow_sub-result : goal.overflow_sub-result
-overflow_sub-result c = mod-le _ _
 
 pub overflow_add-result : goal.overflow_add-result
 overflow_add-result c = let a = c.args in rw c.power-p.ensures (let h = slid_fits a.w a.n c.if-n-lt8.true (omega arith) in omega arith)
