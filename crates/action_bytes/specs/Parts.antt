@@ -1,21 +1,19 @@
 -- What the reader of an action and of its own bytes promises, but for the body of a transfer.
-use Rattle.std.specs.Prelude.{ℕ, suc, ◌+◌, ◌≤◌, ◌<◌, ◌≡◌, Bool, true, false, ◌&&◌, List, [], ◌∷◌, ◌++◌, leb, length, take}
+use Rattle.std.specs.Prelude.{ℕ, suc, ◌+◌, ◌≤◌, ◌<◌, ◌≡◌, Bool, true, false, ◌&&◌, List, [], ◌∷◌, ◌++◌, leb, length, take, Result, Ok, Err}
 use Rattle.serial_rules.specs.Link as rules
 use Rattle.serial_rules.specs.Body.{done}
 use Rattle.serial_rules.specs.Reply.{shape_turn}
 use Rattle.serial_rules.specs.Record.{Outcome, ran_out, closed}
-use Rattle.serial_rules.proofs.Depth.{HasOwn}
-use Rattle.actions.specs.Actions.{action_for, meaning_for, opens_transfer}
+use Rattle.actions.specs.Actions.{action_for, opens_transfer}
 use Rattle.actions.specs.declared.Target.TheVariants.{Set, Execute, Load, Save}
 use Rattle.actions.specs.declared.Action.{Action}
 use Rattle.actions.specs.declared.Action.TheVariants.{Error, Event, Address, Block}
-use Rattle.actions.specs.declared.Meaning.{Meaning}
 use Rattle.answers.specs.declared.Answer.{Answer}
 use Rattle.answers.specs.declared.Answer.TheVariants as variant
 use Rattle.answers.specs.Reports.{report_of, transfer_for, answer_for}
 use Rattle.notes.specs.Logs.{data_in}
+use Rattle.action_bytes.specs.declared.Halt.{Halt}
 use Rattle.action_bytes.specs.declared.Owned as code-owned
-use Rattle.action_bytes.specs.declared.Owned.TheVariants as owned
 use Rattle.action_bytes.specs.declared.Began.{Began}
 use Rattle.action_bytes.specs.declared.Began.TheVariants as began
 use Rattle.action_bytes.specs.Walk as walk
@@ -62,19 +60,19 @@ pub record HaltedDone (s : List ℕ) (a : Action) (i : ℕ) (own : List ℕ) (an
   pub far : i ≤ k
   pub near : k ≤ length s
 
-abbrev pub OwnDone : List ℕ → Action → ℕ → List ℕ → code-owned.Owned → Type 0
-OwnDone s a i own (owned.Whole held k) = WholeDone s a i own held k
-OwnDone s a i own (owned.Halt answer k) = HaltedDone s a i own answer k
+abbrev pub OwnDone : List ℕ → Action → ℕ → List ℕ → Result code-owned.Owned Halt → Type 0
+OwnDone s a i own (Ok w) = WholeDone s a i own w.held w.at
+OwnDone s a i own (Err h) = HaltedDone s a i own h.answer h.at
 
 -- an action with all its bytes: what it tells ends the call, goes on, or opens a transfer
-abbrev pub finish_of : Action → Answer → ℕ → Began
-finish_of Error a k = began.Halt a k
-finish_of Event a k = began.Told a k
-finish_of (Address Set) a k = began.Told a k
-finish_of (Address Execute) a k = began.Told a k
-finish_of (Address Load) a k = began.Opens false a k
-finish_of (Address Save) a k = began.Opens true a k
-finish_of (Block n) a k = began.Told a k
+abbrev pub finish_of : Action → Answer → ℕ → Result Began Halt
+finish_of Error a k = Err (record { answer = a; at = k })
+finish_of Event a k = Ok (began.Told a k)
+finish_of (Address Set) a k = Ok (began.Told a k)
+finish_of (Address Execute) a k = Ok (began.Told a k)
+finish_of (Address Load) a k = Ok (began.Opens false a k)
+finish_of (Address Save) a k = Ok (began.Opens true a k)
+finish_of (Block n) a k = Ok (began.Told a k)
 
 -- An action but for the body of the transfer that it opens. `own` is left with the action's bytes; what it has behind them is free, and all of it where
 -- the reading ended without an error.
@@ -97,14 +95,10 @@ pub record BeganOpens (s : List ℕ) (d i : ℕ) (w : rules.Meaning) (own : List
   pub far : i < k
   pub near : k ≤ length s
 
-abbrev pub BeganDone : List ℕ → ℕ → ℕ → rules.Meaning → List ℕ → Began → Type 0
-BeganDone s d i w own (began.Halt answer k) = BeganHalt s d i w own answer k
-BeganDone s d i w own (began.Told answer k) = BeganTold s d i w own answer k
-BeganDone s d i w own (began.Opens save answer k) = BeganOpens s d i w own save answer k
-
--- the action that a mark starts has some bytes of its own
-abbrev pub Known : Meaning → Type 0
-Known w = HasOwn (meaning_for w)
+abbrev pub BeganDone : List ℕ → ℕ → ℕ → rules.Meaning → List ℕ → Result Began Halt → Type 0
+BeganDone s d i w own (Err h) = BeganHalt s d i w own h.answer h.at
+BeganDone s d i w own (Ok (began.Told answer k)) = BeganTold s d i w own answer k
+BeganDone s d i w own (Ok (began.Opens save answer k)) = BeganOpens s d i w own save answer k
 
 abbrev pub is_fifth : Action → ℕ → Bool
 is_fifth a d = opens_transfer a && leb 4 d

@@ -3,114 +3,111 @@
 
 ghost use Rattle.std.specs.Prelude.{◌≤◌, ◌<◌, min, ◌≡◌, length};
 ghost use Rattle.serial_rules.specs.Link.{own_most, starts, meaning_of};
-ghost use Rattle.actions.specs.Actions.{action_for, meaning_for};
-ghost use Rattle.link.specs.View.{own_lent};
-ghost use Rattle.action_bytes.specs.Parts.{finish_of, is_fifth, Known, depth_for, OwnDone, BeganDone};
+ghost use Rattle.actions.specs.Actions.{action_for};
+ghost use Rattle.action_bytes.specs.Parts.{finish_of, is_fifth, depth_for, OwnDone, BeganDone};
 
 use actions::{Action, Meaning, Target};
 use answers::Answer;
 use escape::Unit;
 use link::Link;
+use refusal::Refusal;
 use turns::Turn;
 
-// An action's own bytes: how many there are before the last one, and the place behind it; or the answer that ended them.
-#[derive(Clone, Copy)]
-enum Owned {
-    Whole(u16, usize),
-    Halt(Answer, usize),
+// Where the reading ended: its answer, and the place behind the last raw byte that was read.
+#[derive(Clone, Copy, PartialEq, Eq, Debug)]
+pub struct Halt {
+    pub answer: Answer,
+    pub at: usize,
 }
 
-// An action but for the body of a transfer, with the place behind it: an answer that ends the call, one that is passed over, or that of a load or
-// save.
+// An action's own bytes: how many there are before the last one, and the place behind it.
 #[derive(Clone, Copy)]
+struct Owned {
+    held: u16,
+    at: usize,
+}
+
+// An action but for the body of a transfer, with the place behind it: an answer that is passed over, or that of a load or save.
+#[derive(Clone, Copy, PartialEq, Eq, Debug)]
 pub enum Began {
-    Halt(Answer, usize),
     Told(Answer, usize),
     Opens(bool, Answer, usize),
 }
 
-// An action but for the body of the transfer that it opens, from the place behind its mark, where so many transfers are open. A place behind the end of
-// the recording counts as its end, and the end of a transfer is read as outside every transfer.
+// An action but for the body of the transfer that it opens, from the place behind its mark, where so many transfers are open; or where it ended the
+// reading. A place behind the end of the recording counts as its end, and the end of a transfer is read as outside every transfer.
 pub fn begin_action(
     raw: &[u8],
     at: usize,
     mark: u8,
     depth: usize,
     own: &mut [u8; Link::OWN],
-) -> Began
+) -> Result<Began, Halt>
     ensures { BeganDone raw.now (depth_for (meaning_of mark) depth) (min at (length raw.now)) (meaning_of mark) own.new result }
 {
-    begin(raw, place_in(raw, at), Meaning::of(mark), depth, own)
-}
-
-// A place of the recording, its end at most.
-fn place_in(raw: &[u8], at: usize) -> usize
-    ensures { result ≡ min at (length raw.now) }
-{
-    if at <= raw.len() {
-        return at;
-    }
-    raw.len()
-}
-
-// By what the mark means.
-fn begin(raw: &[u8], at: usize, meaning: Meaning, depth: usize, own: &mut [u8]) -> Began
-    requires { (at ≤ length raw.now) × (length own.old ≡ own_lent) × Known meaning }
-    ensures { BeganDone raw.now (depth_for (meaning_for meaning) depth) at (meaning_for meaning) own.new result }
-{
-    match meaning {
-        Meaning::Unknown => Began::Halt(Answer::Refused(4), at),
-        Meaning::State(on) => Began::Told(Answer::EscapeState(on), at),
-        Meaning::End => Began::Halt(Answer::Refused(5), at),
+    let at = at.min(raw.len());
+    match Meaning::of(mark) {
+        Meaning::Unknown => Err(Halt {
+            answer: Answer::Refused(Refusal::NotCarried),
+            at,
+        }),
+        Meaning::State(on) => Ok(Began::Told(Answer::EscapeState(on), at)),
+        Meaning::End => Err(Halt {
+            answer: Answer::Refused(Refusal::Misplaced),
+            at,
+        }),
         Meaning::Starts(action) => start(raw, at, action, depth, own),
     }
 }
 
 // An action starts, unless it would open a fifth transfer; then its own bytes.
-fn start(raw: &[u8], at: usize, action: Action, depth: usize, own: &mut [u8]) -> Began
-    requires { (at ≤ length raw.now) × (length own.old ≡ own_lent) × (0 < own_most (action_for action)) }
+fn start(
+    raw: &[u8],
+    at: usize,
+    action: Action,
+    depth: usize,
+    own: &mut [u8; Link::OWN],
+) -> Result<Began, Halt>
+    requires { (at ≤ length raw.now) × (0 < own_most (action_for action)) }
     ensures { BeganDone raw.now depth at (starts (action_for action)) own.new result }
 {
     if is_fifth(action, depth) {
-        return Began::Halt(Answer::Refused(13), at);
+        return Err(Halt {
+            answer: Answer::Refused(Refusal::TooDeep),
+            at,
+        });
     }
-    let owned = own_bytes(raw, at, action, own);
-    match owned {
-        Owned::Halt(answer, next) => Began::Halt(answer, next),
-        Owned::Whole(held, next) => finish(action, answers::told_by(action, held, own), next),
-    }
+    let owned = own_bytes(raw, at, action, own)?;
+    finish(action, answers::told_by(action, owned.held, own), owned.at)
 }
 
 // Whether an action would open a fifth transfer.
 fn is_fifth(action: Action, depth: usize) -> bool
     ensures { result ≡ is_fifth action depth }
 {
-    if action.opens_transfer() {
-        return 4 <= depth;
-    }
-    false
+    action.opens_transfer() && 4 <= depth
 }
 
 // What an action with all its bytes does.
-fn finish(action: Action, answer: Answer, next: usize) -> Began
-    ensures { result ≡ finish_of action answer next }
+fn finish(action: Action, answer: Answer, at: usize) -> Result<Began, Halt>
+    ensures { result ≡ finish_of action answer at }
 {
     match action {
-        Action::Error => Began::Halt(answer, next),
-        Action::Event => Began::Told(answer, next),
-        Action::Address(target) => match target {
-            Target::Set => Began::Told(answer, next),
-            Target::Execute => Began::Told(answer, next),
-            Target::Load => Began::Opens(false, answer, next),
-            Target::Save => Began::Opens(true, answer, next),
-        },
-        Action::Block(_) => Began::Told(answer, next),
+        Action::Error => Err(Halt { answer, at }),
+        Action::Address(Target::Load) => Ok(Began::Opens(false, answer, at)),
+        Action::Address(Target::Save) => Ok(Began::Opens(true, answer, at)),
+        Action::Event | Action::Address(_) | Action::Block(_) => Ok(Began::Told(answer, at)),
     }
 }
 
 // The bytes of an action's own, from a place on.
-fn own_bytes(raw: &[u8], from: usize, action: Action, own: &mut [u8]) -> Owned
-    requires { (from ≤ length raw.now) × (length own.old ≡ own_lent) × (0 < own_most (action_for action)) }
+fn own_bytes(
+    raw: &[u8],
+    from: usize,
+    action: Action,
+    own: &mut [u8; Link::OWN],
+) -> Result<Owned, Halt>
+    requires { (from ≤ length raw.now) × (0 < own_most (action_for action)) }
     ensures { OwnDone raw.now action from own.new result }
 {
     let mut i = from;
@@ -119,24 +116,33 @@ fn own_bytes(raw: &[u8], from: usize, action: Action, own: &mut [u8]) -> Owned
         let unit = escape::unit_at(raw, i);
         match unit {
             Unit::Gone => {
-                return Owned::Halt(Answer::More, raw.len());
+                return Err(Halt {
+                    answer: Answer::More,
+                    at: raw.len(),
+                });
             }
-            Unit::Mark(_, next) => {
-                return Owned::Halt(Answer::Refused(5), next);
+            Unit::Mark(_, at) => {
+                return Err(Halt {
+                    answer: Answer::Refused(Refusal::Misplaced),
+                    at,
+                });
             }
             Unit::Data(b, next) => {
-                let at = held as usize;
-                let turn = action.shape().turn(at, b);
-                match turn {
-                    Turn::Refused(n) => {
-                        return Owned::Halt(Answer::Refused(n), next);
+                let turn = match action.shape().turn(held as usize, b) {
+                    Ok(turn) => turn,
+                    Err(refusal) => {
+                        return Err(Halt {
+                            answer: Answer::Refused(refusal),
+                            at: next,
+                        });
                     }
+                };
+                own[held as usize] = b;
+                match turn {
                     Turn::Done => {
-                        own[at] = b;
-                        return Owned::Whole(held, next);
+                        return Ok(Owned { held, at: next });
                     }
                     Turn::More => {
-                        own[at] = b;
                         held += 1;
                         i = next;
                     }

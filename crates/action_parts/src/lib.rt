@@ -4,9 +4,11 @@
 ghost use Rattle.std.specs.Prelude.{◌≡◌};
 ghost use Rattle.host_rules.specs.Actions.{target_sent, state_sent};
 ghost use Rattle.actions.specs.Actions.{target_for};
-ghost use Rattle.action_parts.specs.Parts.{sent_for, parts_with, parts_of, parts_fit, block_fit};
+ghost use Rattle.action_parts.specs.Parts.{sent_for, numbers_of, parts_of, parts_fit};
 
 use actions::Target;
+use fields::{Few, Middle};
+use strings::Text;
 
 // An action; the bytes of a control block and the text of an error are given beside it.
 #[derive(Clone, Copy)]
@@ -30,50 +32,53 @@ pub enum Sent {
     End,
 }
 
-// What an action is made of: its mark, whether it has a block or a text, the first `before` of `head`, which stand before these, and how many bytes end
-// its text.
+// What an action is made of: its mark, whether it has a block or a text; and its numbers, `head` before it, `tail` behind it.
 #[derive(Clone, Copy)]
 pub struct Parts {
     pub mark: u8,
-    pub block: bool,
-    pub text: bool,
-    pub head: [u8; 4],
-    pub before: usize,
-    pub behind: usize,
+    pub middle: Middle,
+    pub head: Few<4>,
+    pub tail: Few<1>,
 }
 
 // The parts of an action, whose block has the length `length`. The low bits of a mark that are ignored are 0.
+#[tactic(auto, unfolding(crate::specs::Parts::parts_of))]
 pub fn parts_of(action: Sent, length: u8) -> Parts
     ensures { result ≡ parts_of (sent_for action) length }
 {
     match action {
-        Sent::Error(number) => made(0x00, false, true, [number, 0, 0, 0], 1, 1),
-        Sent::Restart => made(0x00, false, false, [0, 0, 0, 0], 2, 0),
-        Sent::EscapeState(on) => made(state_mark(on), false, false, [0, 0, 0, 0], 0, 0),
-        Sent::Event { y, x, a } => made(0x90, false, false, [y, x, a, 0], 3, 0),
+        Sent::Error(number) => Parts {
+            middle: Middle::Text,
+            tail: Few::of([Text::ZERO]),
+            ..numbers(0x00, Few::of([number]))
+        },
+        Sent::Restart => numbers(0x00, Few::of([0, 0])),
+        Sent::EscapeState(on) => numbers(state_mark(on), Few::of([])),
+        Sent::Event { y, x, a } => numbers(0x90, Few::of([y, x, a])),
         Sent::Address {
             target,
             b3,
             b2,
             b1,
             b0,
-        } => made(target_mark(target), false, false, [b3, b2, b1, b0], 4, 0),
-        Sent::Block => made(length, true, false, [0, 0, 0, 0], 0, 0),
-        Sent::End => made(0xB0, false, false, [0, 0, 0, 0], 0, 0),
+        } => numbers(target_mark(target), Few::of([b3, b2, b1, b0])),
+        Sent::Block => Parts {
+            middle: Middle::Block,
+            ..numbers(length, Few::of([]))
+        },
+        Sent::End => numbers(0xB0, Few::of([])),
     }
 }
 
-// Parts from their values.
-fn made(mark: u8, block: bool, text: bool, head: [u8; 4], before: usize, behind: usize) -> Parts
-    ensures { result ≡ parts_with mark block text head before behind }
+// The parts of an action of numbers alone.
+fn numbers(mark: u8, head: Few<4>) -> Parts
+    ensures { result ≡ numbers_of mark head }
 {
     Parts {
-        mark: mark,
-        block: block,
-        text: text,
-        head: head,
-        before: before,
-        behind: behind,
+        mark,
+        middle: Middle::Nothing,
+        head,
+        tail: Few::of([]),
     }
 }
 
@@ -81,7 +86,7 @@ fn made(mark: u8, block: bool, text: bool, head: [u8; 4], before: usize, behind:
 fn state_mark(on: bool) -> u8
     ensures { result ≡ state_sent on }
 {
-    if on { 0x81 } else { 0x80 }
+    0x80 + u8::from(on)
 }
 
 fn target_mark(target: Target) -> u8
@@ -95,28 +100,14 @@ fn target_mark(target: Target) -> u8
     }
 }
 
-// Whether the block and the text keep the rules of an action of these parts.
+// Whether the block and the text keep the rules of an action of these parts: a control block has 1 to 127 bytes, and any other action none.
+#[tactic(auto, using(crate::proofs::Laws::no_text_given), unfolding(crate::specs::Parts::parts_fit))]
 pub fn fits(parts: Parts, block: &[u8], text: &[u8]) -> bool
     ensures { result ≡ parts_fit parts block.now text.now }
 {
-    if !block_fits(parts.block, block.len()) {
-        return false;
+    match parts.middle {
+        Middle::Nothing => block.is_empty() && text.is_empty(),
+        Middle::Block => !block.is_empty() && block.len() < 0x80 && text.is_empty(),
+        Middle::Text => block.is_empty() && !strings::has_zero(text),
     }
-    if parts.text {
-        return !strings::has_zero(text);
-    }
-    text.len() == 0
-}
-
-// A control block has 1 to 127 bytes; any other action has none.
-fn block_fits(carried: bool, length: usize) -> bool
-    ensures { result ≡ block_fit carried length }
-{
-    if carried {
-        if length == 0 {
-            return false;
-        }
-        return length < 0x80;
-    }
-    length == 0
 }

@@ -1,8 +1,7 @@
 -- What writing an action promises.
 use Rattle.std.specs.Prelude.{ℕ, List, length}
 use Rattle.host_rules.specs.Actions.{sent_raw, sent_number}
-use Rattle.fields.specs.Promise.{WriterDone}
-use Rattle.fields.specs.declared.Written.{Written}
+use Rattle.fields.specs.Promise.{Written, WriterDone}
 use Rattle.action_parts.specs.declared.Sent.{Sent}
 use Rattle.action_parts.specs.Parts.{sent_for}
 

@@ -7,10 +7,11 @@ ghost use Rattle.serial_rules.specs.Nest.{nest_of};
 ghost use Rattle.shapes.specs.Shapes.{shape_for, longest_shape};
 ghost use Rattle.actions.specs.Actions.{action_for, meaning_for, opens_transfer};
 
+use marks::Class;
 use shapes::Shape;
 
 // What four address bytes are for.
-#[derive(Clone, Copy)]
+#[derive(Clone, Copy, PartialEq, Eq, Debug)]
 pub enum Target {
     Set,
     Execute,
@@ -19,7 +20,7 @@ pub enum Target {
 }
 
 // The actions that have bytes of their own.
-#[derive(Clone, Copy)]
+#[derive(Clone, Copy, PartialEq, Eq, Debug)]
 pub enum Action {
     Error,
     Event,
@@ -28,7 +29,7 @@ pub enum Action {
 }
 
 // What a mark is, outside an action's own bytes: not carried; the Escape state; the end of a transfer; or the start of an action.
-#[derive(Clone, Copy)]
+#[derive(Clone, Copy, PartialEq, Eq, Debug)]
 pub enum Meaning {
     Unknown,
     State(bool),
@@ -53,27 +54,14 @@ impl Action {
     pub fn opens_transfer(self) -> bool
         ensures { result ≡ opens_transfer self }
     {
-        match self {
-            Action::Error => false,
-            Action::Event => false,
-            Action::Address(target) => match target {
-                Target::Set => false,
-                Target::Execute => false,
-                Target::Load => true,
-                Target::Save => true,
-            },
-            Action::Block(_) => false,
-        }
+        matches!(self, Action::Address(Target::Load | Target::Save))
     }
 
     // Whether it may start where the transfers of a number are open: at most four may be.
     pub fn may_start(self, nested: u8) -> bool
         ensures { result ≡ may_start (action_for self) (nest_of nested) }
     {
-        if self.opens_transfer() {
-            return nested < 15;
-        }
-        true
+        !self.opens_transfer() || nested < 15
     }
 
     // The most bytes of its own; 0 for a control block that no mark opens.
@@ -93,29 +81,26 @@ impl Action {
 fn block_most(n: u8) -> usize
     ensures { (result ≡ own_most (control n)) × (result ≤ 127) }
 {
-    if n < 128 {
-        return n as usize;
-    }
-    0
+    if n < 128 { usize::from(n) } else { 0 }
 }
 
 impl Meaning {
     // What a mark is, by its class.
+    #[tactic(auto, using(crate::proofs::Meanings::meaning_by_class))]
     pub fn of(mark: u8) -> Meaning
         ensures { meaning_for result ≡ meaning_of mark }
     {
-        let class = marks::inward_class(mark);
-        match class {
-            1 => Meaning::Starts(Action::Error),
-            2 => Meaning::State(mark % 2 == 1),
-            3 => Meaning::Starts(Action::Event),
-            4 => Meaning::Starts(Action::Address(Target::Set)),
-            5 => Meaning::Starts(Action::Block(mark)),
-            6 => Meaning::End,
-            7 => Meaning::Starts(Action::Address(Target::Execute)),
-            8 => Meaning::Starts(Action::Address(Target::Load)),
-            9 => Meaning::Starts(Action::Address(Target::Save)),
-            _ => Meaning::Unknown,
+        match marks::inward_class(mark) {
+            Class::Error => Meaning::Starts(Action::Error),
+            Class::State => Meaning::State(mark % 2 == 1),
+            Class::Event => Meaning::Starts(Action::Event),
+            Class::Address => Meaning::Starts(Action::Address(Target::Set)),
+            Class::Block => Meaning::Starts(Action::Block(mark)),
+            Class::End => Meaning::End,
+            Class::Execute => Meaning::Starts(Action::Address(Target::Execute)),
+            Class::Load => Meaning::Starts(Action::Address(Target::Load)),
+            Class::Save => Meaning::Starts(Action::Address(Target::Save)),
+            Class::NotCarried | Class::Request => Meaning::Unknown,
         }
     }
 }

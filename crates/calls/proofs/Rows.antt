@@ -1,12 +1,12 @@
 -- What a row of the request table says of the rules of its call and of its body; what is given, against a row; the heading.
-use Prim.Native.Nat.{ℕ, ◌+◌, ◌-◌, ◌*◌, ◌≤◌}
+use Prim.Native.Nat.{ℕ, ◌+◌, ◌*◌, ◌≤◌}
 use native.Mathlib.Omega.{arith}
 use mathlib.Core.Path.{◌≡◌, refl}
 use mathlib.Core.Bool.{Bool, true, false, cond, not, ◌&&◌, ◌||◌}
 use mathlib.Core.List.{List, [], ◌∷◌, ◌++◌, append-nil}
 use borrow.Author.Tests.{eq-eqb, ne_eqb, eqb-true, leb-true, leb-false}
 use lib.Dec.{eqb, leb}
-use lib.ListN.{length, take, drop}
+use lib.ListN.{length}
 use Rattle.serial_rules.specs.Escape.{escape}
 use Rattle.serial_rules.specs.Call.{Call, osrdch, oscli, osbyte_low, osbyte_high, osword, osword0, osargs, osbget, osbput, osfind_close, osfind_open, osfile, osgbpb, code_of, body_of, block_ok, has_string, numbers_ok, has_return, call_ok, heading, style_ok, encoding_of}
 use Rattle.serial_rules.proofs.Trip.{and_both}
@@ -15,10 +15,9 @@ use Rattle.carrier.specs.declared.Carrier.{Carrier}
 use Rattle.carrier.specs.declared.Carrier.TheVariants.{Serial, Parallel}
 use Rattle.carrier.specs.Carriers.{carrier_of}
 use Rattle.room.specs.Carriers.{coded}
-use Rattle.fields.proofs.Padded.{padded_take, padded_fits}
+use Rattle.fields.proofs.Padded.{padded_take}
 use Rattle.fields.proofs.Wrote.{no_string}
-use Rattle.calls.specs.declared.Row.{Row}
-use Rattle.calls.specs.Rows.{length_byte, head_start, head_in, tail_in, given_ok, block_length, head_of, tail_of, row_of, row_raw}
+use Rattle.calls.specs.Rows.{length_byte, head_in, tail_in, given_ok, block_length, head_of, tail_of, row_of, row_raw}
 
 -- The length that a row asks of the block is the one that the call's rule asks; OSWORD takes every length that is a byte.
 any_byte : (n : ℕ) (t : Bool) → leb n 255 ≡ t → eqb n (cond t n 0) ≡ t
@@ -75,7 +74,7 @@ code_small (osfind_open a) = omega arith
 code_small (osfile a) = omega arith
 code_small (osgbpb a) = omega arith
 
--- The numbers of the row of a call are those of its body, and its arrays have room for them; its code is small.
+-- The numbers of the row of a call are those of its body; its code is small.
 module _ (call : Call) (n : ℕ) where
   pub row_head : head_in (row_of call n) ≡ head_of call n
   unfolding row_of
@@ -88,14 +87,6 @@ module _ (call : Call) (n : ℕ) where
   pub row_code : (row_of call n).code ≤ 22
   unfolding row_of
   row_code = code_small call
-
-  pub row_before : (row_of call n).before ≤ length (row_of call n).head
-  unfolding row_of
-  row_before = padded_fits 3 (head_of call n)
-
-  pub row_behind : (row_of call n).behind ≤ length (row_of call n).tail
-  unfolding row_of
-  row_behind = padded_fits 2 (tail_of call)
 
 -- What the row of a call says of it.
 module _ (call : Call) (b t : List ℕ) where
@@ -113,38 +104,17 @@ module _ (call : Call) (b t : List ℕ) where
       let k = and_both (has_string call || eqb (length t) 0) (not (has_return t)) z.1 in
       rw (row_head, row_tail, body_same call b t z.0 k.0)
 
--- What is given against a row, after the test of the style: the first that is broken refuses, and a string stands only where the row has one.
-module _ {style : Bool} (row : Row) (b t : List ℕ) where
-  pub style_broken : style ≡ false → false ≡ (style && given_ok row b t)
-  style_broken e = rw e
+-- a string that a row does not have is empty, and then holds no return
+pub no_string_given : (t : List ℕ) → eqb (length t) 0 ≡ (eqb (length t) 0 && not (has_return t))
+no_string_given t = no_string t
 
-  pub number_broken : style ≡ true → row.good ≡ false → false ≡ (style && given_ok row b t)
-  unfolding given_ok
-  number_broken e good = rw (e, good)
-
-  pub block_broken : style ≡ true → row.good ≡ true → (length b ≡ row.block → ⊥) → false ≡ (style && given_ok row b t)
-  unfolding given_ok
-  block_broken e good block = rw (e, good, ne_eqb (length b) row.block block)
-
-  pub string_given : {found : Bool} → style ≡ true → row.good ≡ true → length b ≡ row.block → row.string ≡ true → found ≡ has_return t
-      → not found ≡ (style && given_ok row b t)
-  unfolding given_ok
-  string_given e good block string f = rw (e, good, eq-eqb (length b) row.block block, string, f)
-
-  pub string_missing : style ≡ true → row.good ≡ true → length b ≡ row.block → row.string ≡ false → eqb (length t) 0 ≡ (style && given_ok row b t)
-  unfolding given_ok
-  string_missing e good block string = rw (e, good, eq-eqb (length b) row.block block, string) (no_string t)
-
--- The heading is the tail of the escape and the mark: both, or on the parallel side the second, which is the plain code.
+-- The heading is the escape and the mark, or on the parallel side the second alone, which is the plain code.
 pub style_fits : (carrier : Carrier) (style : ℕ) → style_ok (carrier_of carrier) style ≡ true → style ≤ 3
 style_fits Serial style h = leb-true style 3 h
 style_fits Parallel style h = omega (arith, eqb-true style 0 h)
 
-pub start_fits : (carrier : Carrier) {from : ℕ} → from ≡ head_start carrier → from ≤ 1
-start_fits Serial e = omega arith
-start_fits Parallel e = omega arith
+pub heading_serial : (style code : ℕ) → escape ∷ (style * 32 + code) ∷ [] ≡ heading (carrier_of Serial) style code
+heading_serial style code = refl
 
-pub heading_same : (carrier : Carrier) (style code : ℕ) {from : ℕ} → style_ok (carrier_of carrier) style ≡ true → from ≡ head_start carrier
-    → take (2 - from) (drop from (escape ∷ (style * 32 + code) ∷ [])) ≡ heading (carrier_of carrier) style code
-heading_same Serial style code ok e = rw e
-heading_same Parallel style code ok e = let plain : style * 32 + code ≡ code = omega (arith, eqb-true style 0 ok) in rw (e, plain)
+pub heading_parallel : (style code : ℕ) → style_ok (carrier_of Parallel) style ≡ true → (style * 32 + code) ∷ [] ≡ heading (carrier_of Parallel) style code
+heading_parallel style code ok = let plain : style * 32 + code ≡ code = omega (arith, eqb-true style 0 ok) in rw plain

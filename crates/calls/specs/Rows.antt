@@ -2,31 +2,21 @@
 use Rattle.std.specs.Prelude.{ℕ, ◌≤◌, ◌≡◌, Bool, true, cond, not, ◌&&◌, ◌||◌, List, [], ◌∷◌, ◌++◌, eqb, leb, length, take}
 use Rattle.serial_rules.specs.Call.{Call, file_block, osrdch, oscli, osbyte_low, osbyte_high, osword, osword0, osargs, osbget, osbput, osfind_close, osfind_open, osfile, osgbpb, return, code_of, numbers_ok, has_string, has_return, style_ok, heading}
 use Rattle.carrier.specs.declared.Carrier.{Carrier}
-use Rattle.carrier.specs.declared.Carrier.TheVariants.{Serial, Parallel}
 use Rattle.carrier.specs.Carriers.{carrier_of}
 use Rattle.room.specs.Carriers.{coded}
-use Rattle.fields.specs.Padded.{padded}
+use Rattle.fields.specs.Few.{few}
 use Rattle.calls.specs.declared.Row.{Row}
 
 -- a length as a byte
 abbrev pub length_byte : ℕ → ℕ
 length_byte n = cond (leb n 255) n 0
 
--- the heading without the escape on the parallel side
-abbrev pub head_start : Carrier → ℕ
-head_start Serial = 0
-head_start Parallel = 1
-
-abbrev pub row_with : ℕ → Bool → ℕ → Bool → List ℕ → ℕ → List ℕ → ℕ → Row
-row_with code good block string head before tail behind =
-    record { code = code; good = good; block = block; string = string; head = head; before = before; tail = tail; behind = behind }
-
 -- the numbers that a row puts before the block and the string, and behind them
 abbrev pub head_in : Row → List ℕ
-head_in row = take row.before row.head
+head_in row = take row.head.count row.head.bytes
 
 abbrev pub tail_in : Row → List ℕ
-tail_in row = take row.behind row.tail
+tail_in row = take row.tail.count row.tail.bytes
 
 -- numbers, block and string keep the rules of a row
 unfoldable pub given_ok : Row → List ℕ → List ℕ → Bool
@@ -82,9 +72,14 @@ tail_of (osgbpb a) = a ∷ []
 
 -- the row of a call whose block has the length n: its numbers stand in arrays of three and two places
 unfoldable pub row_of : Call → ℕ → Row
-row_of call n =
-    row_with (code_of call) (numbers_ok call) (block_length call n) (has_string call) (padded 3 (head_of call n)) (length (head_of call n)) (padded 2 (tail_of call))
-    (length (tail_of call))
+row_of call n = record {
+  code = code_of call;
+  good = numbers_ok call;
+  block = block_length call n;
+  string = has_string call;
+  head = few 3 (head_of call n);
+  tail = few 2 (tail_of call);
+}
 
 -- the raw bytes of the request of a row, in a style, with the block b and the string t
 abbrev pub row_raw : Carrier → ℕ → Row → List ℕ → List ℕ → List ℕ
@@ -94,5 +89,3 @@ row_raw carrier style row b t = heading (carrier_of carrier) style row.code ++ c
 pub record Writable (carrier : Carrier) (style : ℕ) (row : Row) : Type 0 where
   pub style_kept : style_ok (carrier_of carrier) style ≡ true
   pub code_small : row.code ≤ 22
-  pub before_fits : row.before ≤ length row.head
-  pub behind_fits : row.behind ≤ length row.tail

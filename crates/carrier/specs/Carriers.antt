@@ -1,6 +1,8 @@
 -- The program's carriers, as the rules speak of them, and their numbers.
-use Rattle.std.specs.Prelude.{ℕ, cond, eqb}
+use Rattle.std.specs.Prelude.{ℕ, cond, eqb, leb, Result, Ok, Err}
 use Rattle.serial_rules.specs.Call as rules
+use Rattle.refusal.specs.declared.Refusal.{Refusal}
+use Rattle.refusal.specs.declared.Refusal.TheVariants.{BadField}
 use Rattle.carrier.specs.declared.Carrier.{Carrier}
 use Rattle.carrier.specs.declared.Carrier.TheVariants.{Serial, Parallel}
 
@@ -14,6 +16,10 @@ carrier_at n = cond (eqb n 0) Serial Parallel
 
 abbrev pub last_carrier : ℕ
 last_carrier = 1
+
+-- the carrier of a number, or that the number is a field that breaks its rule
+abbrev pub carrier_from : ℕ → Result Carrier Refusal
+carrier_from n = cond (leb n last_carrier) (Ok (carrier_at n)) (Err BadField)
 
 abbrev pub carrier_number : Carrier → ℕ
 carrier_number Serial = 0

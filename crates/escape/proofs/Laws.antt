@@ -11,6 +11,7 @@ use lib.Dec.{eqb, ltb}
 use lib.ListN.{length, take, drop, get_or, set, length-append, length-drop, length-take, drop_of_length-le, take-append-drop}
 use lib.Seq.{take_at, drop_at, drop-drop, drop-cons, set_at, take-suc, take_all}
 use Rattle.serial_rules.specs.Escape.{escape, escapes}
+use Rattle.serial_rules.proofs.Escape.{escaped_length, escaped_most}
 use Rattle.escape.specs.Layer.{is_escape}
 use Rattle.escape.specs.Put.{over, Put}
 
@@ -73,18 +74,17 @@ module _ (l : List ℕ) (i : ℕ) where
   unfolding escapes
   escapes_none h = rw (drop_of_length-le l h)
 
--- the escape bytes of a piece from i to e, and of what is behind it
+-- the escape bytes of a piece and of the rest behind it; no more than the bytes
 escapes_append : (a b : List ℕ) → escapes (a ++ b) ≡ escapes a + escapes b
 unfolding escapes
 escapes_append [] b = sym (zero-add (escapes b))
 escapes_append (x ∷ a) b = rw (escapes_append a b) (omega arith)
 
-pub escapes_piece : (l : List ℕ) (i e : ℕ) → i ≤ e → escapes (drop i l) ≡ escapes (take (e - i) (drop i l)) + escapes (drop e l)
-escapes_piece l i e h =
-    let k : i + (e - i) ≡ e = omega arith in
-    ap escapes (sym (take-append-drop (e - i) (drop i l)))
-    ∙ escapes_append (take (e - i) (drop i l)) (drop (e - i) (drop i l))
-    ∙ ap (λ (m : List ℕ). escapes (take (e - i) (drop i l)) + escapes m) (drop-drop (e - i) i l ∙ ap (λ (n : ℕ). drop n l) k)
+pub escapes_split : (n : ℕ) (l : List ℕ) → escapes (take n l) + escapes (drop n l) ≡ escapes l
+escapes_split n l = sym (escapes_append (take n l) (drop n l)) ∙ ap escapes (take-append-drop n l)
+
+pub escapes_most : (l : List ℕ) → escapes l ≤ length l
+escapes_most l = omega (arith, escaped_length l, escaped_most l)
 
 -- Whether an escape byte stands among bytes: among the first i, which is found, or from i on.
 some_more : (t : Bool) (n : ℕ) → ltb 0 (cond t 1 0 + n) ≡ (t || ltb 0 n)
@@ -100,3 +100,10 @@ module _ (l : List ℕ) (i : ℕ) (found : Bool) where
 
   pub escape_all : length l ≤ i → (found || ltb 0 (escapes (drop i l))) ≡ ltb 0 (escapes l) → found ≡ ltb 0 (escapes l)
   escape_all h inv = sym (or-false found) ∙ (rw (escapes_none l i h) at inv)
+
+-- what counting the escape bytes needs, and looking for one
+pub ruleset counting = (escapes_more, escapes_none)
+
+pub ruleset pieces = (escapes_split, escapes_most)
+
+pub ruleset searching = (escape_more, escape_all)

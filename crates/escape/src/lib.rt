@@ -30,66 +30,60 @@ impl Piece {
     pub fn read(seen: bool, raw: u8) -> Piece
         ensures { piece_for result ≡ piece_of seen raw }
     {
-        if seen {
-            if raw == Piece::ESCAPE {
-                return Piece::Data(raw);
-            }
-            return Piece::Mark(raw);
+        match (seen, raw == Piece::ESCAPE) {
+            (true, false) => Piece::Mark(raw),
+            (false, true) => Piece::Pending,
+            _ => Piece::Data(raw),
         }
-        if raw == Piece::ESCAPE {
-            return Piece::Pending;
-        }
-        Piece::Data(raw)
     }
 }
 
 // The data byte or mark at a place, where no escape was seen before it.
+#[tactic(auto, unfolding(crate::specs::Units::unit_at))]
 pub fn unit_at(raw: &[u8], i: usize) -> Unit
     ensures { unit_for result ≡ unit_at raw.now i }
 {
-    if i < raw.len() {
-        let first = raw[i];
-        if first == Piece::ESCAPE {
-            let j = i + 1;
-            if j < raw.len() {
-                let second = raw[j];
-                if second == Piece::ESCAPE {
-                    return Unit::Data(second, j + 1);
-                }
-                return Unit::Mark(second, j + 1);
-            }
-            return Unit::Gone;
-        }
+    let Some(&first) = raw.get(i) else {
+        return Unit::Gone;
+    };
+    if first != Piece::ESCAPE {
         return Unit::Data(first, i + 1);
     }
-    Unit::Gone
+    let j = i + 1;
+    let Some(&second) = raw.get(j) else {
+        return Unit::Gone;
+    };
+    if second == Piece::ESCAPE {
+        return Unit::Data(second, j + 1);
+    }
+    Unit::Mark(second, j + 1)
 }
 
 // The bytes of a piece that are counted in one byte.
 const PIECE: usize = 224;
 
 // How many of the bytes are escape bytes: by pieces, so that many bytes are counted at once.
+#[tactic(auto, using(crate::proofs::Laws::pieces))]
 pub fn count_escapes(bytes: &[u8]) -> usize
     ensures { result ≡ escapes bytes.now }
 {
     let mut n: usize = 0;
-    let mut i: usize = 0;
-    while PIECE <= bytes.len() - i {
-        n += count_piece(&bytes[i..i + PIECE]) as usize;
-        i += PIECE;
+    let mut rest = bytes;
+    while let Some((piece, behind)) = rest.split_first_chunk::<PIECE>() {
+        n += usize::from(count_piece(piece));
+        rest = behind;
     }
-    n + count_piece(&bytes[i..]) as usize
+    n + usize::from(count_piece(rest))
 }
 
+#[tactic(auto, using(crate::proofs::Laws::counting))]
 fn count_piece(bytes: &[u8]) -> u8
     requires { length bytes.now ≤ 224 }
-    ensures { (result ≡ escapes bytes.now) × (result ≤ length bytes.now) }
+    ensures { result ≡ escapes bytes.now }
 {
     let mut n: u8 = 0;
-    let mut i: usize = 0;
-    while i < bytes.len() {
-        n += is_escape(bytes[i]) as u8;
-        i += 1;
+    for b in bytes {
+        n += u8::from(*b == Piece::ESCAPE);
     }
     n
 }
@@ -98,24 +92,17 @@ fn count_piece(bytes: &[u8]) -> u8
 pub fn is_escape(byte: u8) -> usize
     ensures { (result ≡ is_escape byte) × (result ≤ 1) }
 {
-    if byte == Piece::ESCAPE { 1 } else { 0 }
+    usize::from(byte == Piece::ESCAPE)
 }
 
 // Whether one of the bytes is an escape byte. The loop has no other way out, so that it tests many bytes at once.
+#[tactic(auto, using(crate::proofs::Laws::searching))]
 pub fn has_escape(bytes: &[u8]) -> bool
     ensures { result ≡ ltb 0 (escapes bytes.now) }
 {
     let mut found = false;
-    let mut i: usize = 0;
-    while i < bytes.len() {
-        found = or_escape(found, bytes[i]);
-        i += 1;
+    for b in bytes {
+        found |= *b == Piece::ESCAPE;
     }
     found
-}
-
-fn or_escape(found: bool, byte: u8) -> bool
-    ensures { result ≡ (found || eqb byte escape) }
-{
-    if byte == Piece::ESCAPE { true } else { found }
 }

@@ -1,16 +1,14 @@
 -- The raw bytes of one data byte, and of one more.
-use Prim.Native.Nat.{ℕ, ◌+◌, ◌-◌, ◌≤◌, ◌<◌}
-use native.Mathlib.Numerals.{add-one}
+use Prim.Native.Nat.{ℕ, ◌+◌, ◌≤◌}
 use native.Mathlib.Omega.{arith}
 use mathlib.Core.Path.{◌≡◌, refl, ap, ◌∙◌}
 use mathlib.Core.Bool.{Bool, true, false, cond}
-use mathlib.Core.List.{List, [], ◌∷◌, ◌++◌}
-use lib.ListN.{length, take, drop, get_or, set, length-append, take-append-drop}
+use mathlib.Core.List.{List, [], ◌∷◌}
+use lib.ListN.{length, set}
 use lib.Dec.{eqb}
-use lib.Seq.{take-suc, take-add}
 use borrow.Author.Tests.{eqb-true}
 use Rattle.serial_rules.specs.Escape.{escape, escaped}
-use Rattle.serial_rules.proofs.Escape.{escaped_append, escaped_one}
+use Rattle.serial_rules.proofs.Escape.{escaped_one}
 use Rattle.escape.specs.Layer.{is_escape}
 use Rattle.escape.specs.Put.{over, Put}
 
@@ -47,25 +45,3 @@ put_one b {out} {more} m h = go (eqb b escape) refl m
         rw (w, k) (record { count = refl; bytes = set_twice out b (omega arith); room = omega arith })
     go false e k = let w = one_plain b e in let n = ap length w in
         rw (w, k) (record { count = refl; bytes = set_once out b (omega arith); room = omega arith })
-
--- one data byte more
-pub escaped_more : (l : List ℕ) (i : ℕ) → i < length l → escaped (take (i + 1) l) ≡ escaped (take i l) ++ escaped (get_or l i 0 ∷ [])
-escaped_more l i h = rw (add-one, take-suc l i 0, escaped_append)
-
-pub escaped_room : (l : List ℕ) (i : ℕ) → i < length l
-    → length (escaped (take i l)) + length (escaped (get_or l i 0 ∷ [])) ≤ length (escaped l)
-escaped_room l i h =
-    let e : escaped l ≡ escaped (take (i + 1) l) ++ escaped (drop (i + 1) l) = rw (← escaped_append, take-append-drop) in
-    rw (e, escaped_more l i h, length-append, length-append) (omega arith)
-
--- The data bytes from i to e, behind the first i: their raw bytes behind those of the first, for which there is room.
-module _ (l : List ℕ) (i e : ℕ) (h : i ≤ e) where
-  pub piece_more : escaped (take e l) ≡ escaped (take i l) ++ escaped (take (e - i) (drop i l))
-  piece_more =
-      let k : e ≡ i + (e - i) = omega arith in
-      ap (λ (n : ℕ). escaped (take n l)) k ∙ ap escaped (take-add i (e - i) l) ∙ escaped_append (take i l) (take (e - i) (drop i l))
-
-  pub piece_room : length (escaped (take i l)) + length (escaped (take (e - i) (drop i l))) ≤ length (escaped l)
-  piece_room =
-      let w : escaped l ≡ escaped (take e l) ++ escaped (drop e l) = rw (← escaped_append, take-append-drop) in
-      rw (w, piece_more, length-append, length-append) (omega arith)

@@ -1,22 +1,23 @@
--- Laws of the field writers: data bytes without an escape byte, one field after another, and what the writer promises.
-use Prim.Native.Nat.{ℕ, ◌+◌, ◌-◌, ◌≤◌, ◌<◌}
+-- Laws of the field writers: data bytes without an escape byte, the raw bytes of the rest by its first part, and what the writer promises.
+use Prim.Native.Nat.{ℕ, suc, ◌+◌, ◌≤◌, ◌<◌}
+use native.Mathlib.Numerals.{add-one}
 use native.Mathlib.Omega.{arith}
 use mathlib.Core.Path.{◌≡◌, refl, sym, ap, ◌∙◌}
 use mathlib.Core.Bool.{Bool, true, false, cond}
 use mathlib.Core.List.{List, [], ◌∷◌, ◌++◌}
-use borrow.Author.Rules.{rules}
 use borrow.Author.Tests.{lt-ltb, le-ltb, ltb-false}
 use lib.Dec.{eqb, ltb}
-use lib.ListN.{length, take, drop}
+use lib.ListN.{length, take, drop, get_or, drop_of_length-le, take-append-drop}
+use lib.Seq.{drop-cons}
+use Rattle.std.specs.Prelude.{Ok, Err}
+use Rattle.std.specs.Borrow.{Bor}
 use Rattle.serial_rules.specs.Escape.{escape, escaped, escapes}
-use Rattle.serial_rules.proofs.Stream.{carried_append}
+use Rattle.serial_rules.proofs.Escape.{escaped_append}
 use Rattle.carrier.specs.declared.Carrier.{Carrier}
-use Rattle.carrier.specs.Carriers.{carrier_of}
 use Rattle.escape.specs.Put.{Put}
-use Rattle.escape.proofs.Laws.{put_as, put_tail, tail_room}
-use Rattle.room.specs.Carriers.{coded}
-use Rattle.room.proofs.Coded.{pair_length}
-use Rattle.fields.specs.declared.Written.TheVariants.{Done, NoRoom}
+use Rattle.refusal.specs.declared.Refusal.TheVariants.{NoRoom}
+use Rattle.room.specs.Carriers.{coded, joined}
+use Rattle.room.proofs.Coded.{coded_append, coded_nothing}
 use Rattle.fields.specs.Promise.{Encoded}
 
 -- Data bytes without an escape byte stand as they are.
@@ -30,30 +31,36 @@ unfolding escaped escapes
 all_plain [] h = refl
 all_plain (x ∷ l) h = plain_more x l (eqb x escape) (all_plain l) h
 
-pub escaped_plain : (l : List ℕ) {found : Bool} → found ≡ ltb 0 (escapes l) → found ≡ false → escaped l ≡ l
-escaped_plain l e is = all_plain l (omega (arith, ltb-false 0 (escapes l) (sym e ∙ is)))
+pub none_plain : (l : List ℕ) → false ≡ ltb 0 (escapes l) → escaped l ≡ l
+none_plain l e = all_plain l (omega (arith, ltb-false 0 (escapes l) (sym e)))
 
--- Two fields, the second into the tail after the first: the room of each, and the whole.
-pub first_room : (carrier : Carrier) (x y : List ℕ) {n : ℕ} → length (coded carrier (x ++ y)) ≤ n → length (coded carrier x) ≤ n
-first_room carrier x y h = omega (arith, pair_length carrier x y)
+-- The raw bytes of the rest: those of its first part, and of what is behind it.
+pub escaped_piece : (rest piece behind : List ℕ) → rest ≡ piece ++ behind → escaped rest ≡ escaped piece ++ escaped behind
+escaped_piece rest piece behind e = ap escaped e ∙ escaped_append piece behind
 
-pub second_room : (carrier : Carrier) (x y : List ℕ) {out mid : List ℕ} {at : ℕ} → Put (coded carrier x) out mid at → length (coded carrier (x ++ y)) ≤ length out
-    → length (coded carrier y) ≤ length (take (length mid - at) (drop at mid))
-second_room carrier x y a h = tail_room (coded carrier y) a (rw pair_length at h)
+pub escaped_split : (n : ℕ) (rest : List ℕ) {piece behind : List ℕ} → piece ≡ take n rest → behind ≡ drop n rest → escaped rest ≡ escaped piece ++ escaped behind
+escaped_split n rest {piece} {behind} p q = escaped_piece rest piece behind (rw (p, q) (sym (take-append-drop n rest)))
 
-pub put_pair : (carrier : Carrier) (x y : List ℕ) {out mid back : List ℕ} {at n : ℕ} → Put (coded carrier x) out mid at
-    → Put (coded carrier y) (take (length mid - at) (drop at mid)) back n
-    → Put (coded carrier (x ++ y)) out (take at mid ++ (back ++ drop (length mid - at) (drop at mid))) (at + n)
-unfolding coded
-put_pair carrier x y a b = put_as (sym (carried_append (carrier_of carrier) x y)) (put_tail a b)
+module _ (l : List ℕ) (i : ℕ) where
+  pub escaped_next : i < length l → escaped (drop i l) ≡ escaped (get_or l i 0 ∷ []) ++ escaped (drop (i + 1) l)
+  escaped_next h = escaped_piece (drop i l) (get_or l i 0 ∷ []) (drop (i + 1) l) (rw (add-one, drop-cons l i 0 h))
 
--- what a writer of two fields needs
-pub ruleset fields = (first_room, second_room, put_pair, rules)
+  pub escaped_end : length l ≤ i → escaped (drop i l) ≡ []
+  unfolding escaped
+  escaped_end h = ap escaped (drop_of_length-le l h)
+
+module _ (carrier : Carrier) (fs : List (Bor (List ℕ))) (i : ℕ) where
+  pub fields_next : (d : Bor (List ℕ)) → i < length fs
+      → coded carrier (joined (drop i fs)) ≡ coded carrier (get_or fs i d).now ++ coded carrier (joined (drop (i + 1) fs))
+  fields_next d h = rw (add-one, drop-cons fs i d h) (coded_append carrier (get_or fs i d).now (joined (drop (suc i) fs)))
+
+  pub fields_end : length fs ≤ i → coded carrier (joined (drop i fs)) ≡ []
+  fields_end h = rw (drop_of_length-le fs h) (coded_nothing carrier)
 
 -- What a writer promises of a write and of a refusal.
 module _ {w out : List ℕ} where
-  pub encoded_done : {left : List ℕ} {n : ℕ} → Put w out left n → Encoded w out (Done n) left
+  pub encoded_done : {left : List ℕ} {n : ℕ} → Put w out left n → Encoded w out (Ok n) left
   encoded_done p = let e = le-ltb (length out) (length w) (omega (arith, p.count, p.room)) in record { answer = rw e; written = rw e p.count; bytes = rw e p.bytes }
 
-  pub encoded_none : length out < length w → Encoded w out NoRoom out
+  pub encoded_none : length out < length w → Encoded w out (Err NoRoom) out
   encoded_none h = let e = lt-ltb (length out) (length w) h in record { answer = rw e; written = rw e; bytes = rw e }

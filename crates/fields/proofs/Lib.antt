@@ -1,4 +1,5 @@
 pub mod Bytes
+pub mod Going
 pub mod Laws
 pub mod Padded
 pub mod Wrote

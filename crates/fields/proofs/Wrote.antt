@@ -10,8 +10,7 @@ use lib.ListN.{length, take, drop}
 use lib.Seq.{take_at}
 use Rattle.serial_rules.specs.Call.{has_return}
 use Rattle.serial_rules.specs.Session.{has_zero}
-use Rattle.fields.specs.declared.Written.{Written}
-use Rattle.fields.specs.Promise.{number, count, WriterDone}
+use Rattle.fields.specs.Promise.{Written, number, count, WriterDone}
 
 abbrev pub wrote : Written → List ℕ → List ℕ
 wrote r left = take (count r) left

@@ -1,2 +1,4 @@
+pub mod Few
+pub mod Middle
 pub mod Padded
 pub mod Promise

@@ -1,20 +1,20 @@
 -- What a writer promises.
-use Rattle.std.specs.Prelude.{ℕ, ◌≡◌, cond, List, ◌++◌, eqb, ltb, length, drop}
-use Rattle.fields.specs.declared.Written.{Written}
-use Rattle.fields.specs.declared.Written.TheVariants.{Done, TooLong, BadField, NoRoom}
+use Rattle.std.specs.Prelude.{ℕ, ◌≡◌, Result, Ok, Err, cond, List, ◌++◌, eqb, ltb, length, drop}
+use Rattle.refusal.specs.declared.Refusal.{Refusal}
+use Rattle.refusal.specs.Refusals as refusals
+
+-- The answer of a writer: the length of the encoding written, or the refusal.
+abbrev pub Written : Type 0
+Written = Result ℕ Refusal
 
 -- Document 01's number of each answer, and the bytes written.
 abbrev pub number : Written → ℕ
-number (Done n) = 0
-number TooLong = 6
-number BadField = 9
-number NoRoom = 8
+number (Ok n) = 0
+number (Err e) = refusals.number e
 
 abbrev pub count : Written → ℕ
-count (Done n) = n
-count TooLong = 0
-count BadField = 0
-count NoRoom = 0
+count (Ok n) = n
+count (Err e) = 0
 
 -- What a writer promises where its answer has the number n: the whole encoding, then the lent bytes beyond it as they were; or nothing
 -- touched.

@@ -1,118 +1,73 @@
-// The writer that every encoding is made with: a heading, then four fields of data bytes.
+// The writer that every encoding is made with: a heading, then fields of data bytes; and the few bytes that a field is made of.
 #![tactic(auto)]
 
-ghost use Rattle.std.specs.Prelude.{◌≤◌, [], ◌∷◌, ◌++◌, length};
+ghost use Rattle.std.specs.Prelude.{◌≤◌, [], ◌∷◌, length};
 ghost use Rattle.serial_rules.specs.Escape.{escape, escaped};
 ghost use Rattle.escape.specs.Put.{Put};
 ghost use Rattle.room.specs.Carriers.{coded, parts_raw};
 ghost use Rattle.fields.specs.Promise.{Encoded};
 
+mod few;
+mod middle;
+
 use carrier::Carrier;
+pub use few::Few;
+pub use middle::Middle;
+use refusal::Refusal;
 
 // The bytes of a piece of load data that is looked at and copied at once, and of a smaller one.
 const PIECE: usize = 128;
 
 const EIGHT: usize = 8;
 
-// The answers of a writer: the length of the encoding written; a string over 255 bytes; a field that breaks its rule; too little room.
-#[derive(Clone, Copy)]
-pub enum Written {
-    Done(usize),
-    TooLong,
-    BadField,
-    NoRoom,
-}
-
-// Writes a heading as it is, then four fields of data bytes, one behind the other, into the start of `out`: on the serial lead each
-// escape byte doubled, on the parallel side as they are. Where the whole does not fit, nothing is written.
+// Writes a heading as it is, then fields of data bytes, one behind the other, into the start of `out`: on the serial lead each escape byte
+// doubled, on the parallel side as they are. Where the whole does not fit, nothing is written.
 pub fn write_fields(
     carrier: Carrier,
     heading: &[u8],
-    first: &[u8],
-    second: &[u8],
-    third: &[u8],
-    fourth: &[u8],
+    fields: &[&[u8]],
     out: &mut [u8],
-) -> Written
-    ensures { Encoded (parts_raw carrier heading.now first.now second.now third.now fourth.now) out.old result out.new }
+) -> Result<usize, Refusal>
+    ensures { Encoded (parts_raw carrier heading.now fields.now) out.old result out.new }
 {
-    if room::parts_fit(carrier, heading, first, second, third, fourth, out.len()) {
-        return Written::Done(put_parts(carrier, heading, first, second, third, fourth, out));
+    if !room::parts_fit(carrier, heading, fields, out.len()) {
+        return Err(Refusal::NoRoom);
     }
-    Written::NoRoom
+    Ok(put_parts(carrier, heading, fields, out))
 }
 
 // Writes data bytes on the serial lead into the start of `out`, each escape byte doubled. They are looked through once, and where they do not fit nothing is
 // written.
-pub fn write_data(bytes: &[u8], out: &mut [u8]) -> Written
+pub fn write_data(bytes: &[u8], out: &mut [u8]) -> Result<usize, Refusal>
     ensures { Encoded (escaped bytes.now) out.old result out.new }
 {
-    if out.len() < bytes.len() {
-        return Written::NoRoom;
-    }
+    let Some(spare) = out.len().checked_sub(bytes.len()) else {
+        return Err(Refusal::NoRoom);
+    };
     let more = escape::count_escapes(bytes);
-    if out.len() - bytes.len() < more {
-        return Written::NoRoom;
+    if spare < more {
+        return Err(Refusal::NoRoom);
     }
     if more == 0 {
-        return Written::Done(put_plain(bytes, out));
+        return Ok(put_plain(bytes, out));
     }
-    Written::Done(put_pieces(bytes, out))
+    Ok(put_pieces(bytes, out))
 }
 
 // Writes the whole, for which there is room; returns how many bytes. Each field goes into the tail that those before it leave.
-fn put_parts(
-    carrier: Carrier,
-    heading: &[u8],
-    first: &[u8],
-    second: &[u8],
-    third: &[u8],
-    fourth: &[u8],
-    out: &mut [u8],
-) -> usize
-    requires { length (parts_raw carrier heading.now first.now second.now third.now fourth.now) ≤ length out.old }
-    ensures { Put (parts_raw carrier heading.now first.now second.now third.now fourth.now) out.old out.new result }
+fn put_parts(carrier: Carrier, heading: &[u8], fields: &[&[u8]], out: &mut [u8]) -> usize
+    requires { length (parts_raw carrier heading.now fields.now) ≤ length out.old }
+    ensures { Put (parts_raw carrier heading.now fields.now) out.old out.new result }
 {
-    let at = put_plain(heading, out);
-    let n = put_four(carrier, first, second, third, fourth, &mut out[at..]);
-    at + n
-}
-
-fn put_four(
-    carrier: Carrier,
-    first: &[u8],
-    second: &[u8],
-    third: &[u8],
-    fourth: &[u8],
-    out: &mut [u8],
-) -> usize
-    requires { length (coded carrier (first.now ++ (second.now ++ (third.now ++ fourth.now)))) ≤ length out.old }
-    ensures { Put (coded carrier (first.now ++ (second.now ++ (third.now ++ fourth.now)))) out.old out.new result }
-{
-    let at = put_data(carrier, first, out);
-    let n = put_three(carrier, second, third, fourth, &mut out[at..]);
-    at + n
-}
-
-fn put_three(carrier: Carrier, first: &[u8], second: &[u8], third: &[u8], out: &mut [u8]) -> usize
-    requires { length (coded carrier (first.now ++ (second.now ++ third.now))) ≤ length out.old }
-    ensures { Put (coded carrier (first.now ++ (second.now ++ third.now))) out.old out.new result }
-{
-    let at = put_data(carrier, first, out);
-    let n = put_two(carrier, second, third, &mut out[at..]);
-    at + n
-}
-
-fn put_two(carrier: Carrier, first: &[u8], second: &[u8], out: &mut [u8]) -> usize
-    requires { length (coded carrier (first.now ++ second.now)) ≤ length out.old }
-    ensures { Put (coded carrier (first.now ++ second.now)) out.old out.new result }
-{
-    let at = put_data(carrier, first, out);
-    let n = put_data(carrier, second, &mut out[at..]);
-    at + n
+    let mut at = put_plain(heading, out);
+    for field in fields {
+        at += put_data(carrier, field, &mut out[at..]);
+    }
+    at
 }
 
 // Writes data bytes as they are, and on the serial lead, where there is an escape byte, with each of these doubled.
+#[tactic(auto, unfolding(room::specs::Carriers::coded))]
 fn put_data(carrier: Carrier, bytes: &[u8], out: &mut [u8]) -> usize
     requires { length (coded carrier bytes.now) ≤ length out.old }
     ensures { Put (coded carrier bytes.now) out.old out.new result }
@@ -124,6 +79,7 @@ fn put_data(carrier: Carrier, bytes: &[u8], out: &mut [u8]) -> usize
 }
 
 // On the serial lead.
+#[tactic(auto, using(crate::proofs::Laws::none_plain))]
 fn put_serial(bytes: &[u8], out: &mut [u8]) -> usize
     requires { length (escaped bytes.now) ≤ length out.old }
     ensures { Put (escaped bytes.now) out.old out.new result }
@@ -140,15 +96,15 @@ fn put_pieces(bytes: &[u8], out: &mut [u8]) -> usize
     ensures { Put (escaped bytes.now) out.old out.new result }
 {
     let mut at: usize = 0;
-    let mut i: usize = 0;
-    while PIECE <= bytes.len() - i {
-        at += put_piece(&bytes[i..i + PIECE], &mut out[at..]);
-        i += PIECE;
+    let mut rest = bytes;
+    while let Some((piece, behind)) = rest.split_first_chunk::<PIECE>() {
+        at += put_piece(piece, &mut out[at..]);
+        rest = behind;
     }
-    let n = put_eights(&bytes[i..], &mut out[at..]);
-    at + n
+    at + put_eights(rest, &mut out[at..])
 }
 
+#[tactic(auto, using(crate::proofs::Laws::none_plain))]
 fn put_piece(bytes: &[u8], out: &mut [u8]) -> usize
     requires { length (escaped bytes.now) ≤ length out.old }
     ensures { Put (escaped bytes.now) out.old out.new result }
@@ -164,13 +120,12 @@ fn put_eights(bytes: &[u8], out: &mut [u8]) -> usize
     ensures { Put (escaped bytes.now) out.old out.new result }
 {
     let mut at: usize = 0;
-    let mut i: usize = 0;
-    while EIGHT <= bytes.len() - i {
-        at += put_serial(&bytes[i..i + EIGHT], &mut out[at..]);
-        i += EIGHT;
+    let mut rest = bytes;
+    while let Some((piece, behind)) = rest.split_first_chunk::<EIGHT>() {
+        at += put_serial(piece, &mut out[at..]);
+        rest = behind;
     }
-    let n = put_bytes(&bytes[i..], &mut out[at..]);
-    at + n
+    at + put_bytes(rest, &mut out[at..])
 }
 
 // Writes data bytes with each escape byte doubled.
@@ -179,10 +134,8 @@ fn put_bytes(bytes: &[u8], out: &mut [u8]) -> usize
     ensures { Put (escaped bytes.now) out.old out.new result }
 {
     let mut at: usize = 0;
-    let mut i: usize = 0;
-    while i < bytes.len() {
-        at += put_byte(bytes[i], &mut out[at..]);
-        i += 1;
+    for b in bytes {
+        at += put_byte(*b, &mut out[at..]);
     }
     at
 }
@@ -203,10 +156,6 @@ fn put_plain(bytes: &[u8], out: &mut [u8]) -> usize
     requires { length bytes.now ≤ length out.old }
     ensures { Put bytes.now out.old out.new result }
 {
-    let mut i: usize = 0;
-    while i < bytes.len() {
-        out[i] = bytes[i];
-        i += 1;
-    }
-    i
+    out[..bytes.len()].copy_from_slice(bytes);
+    bytes.len()
 }

@@ -2,10 +2,12 @@
 use Prim.Native.Nat.{ℕ, zero, suc}
 use native.Mathlib.Omega.{arith}
 use mathlib.Core.Path.{◌≡◌, refl, sym}
-use mathlib.Core.Bool.{Bool, true, false, not, true≢false}
+use mathlib.Core.Bool.{Bool, true, false, cond, not, true≢false}
 use borrow.Author.Tests.{ne_eqb}
 use lib.Dec.{eqb}
-use Rattle.flat.specs.Flat.{flag_number}
+use Rattle.std.specs.Prelude.{Err}
+use Rattle.refusal.specs.declared.Refusal.TheVariants.{TooLong, BadField}
+use Rattle.flat.specs.Flat.{flag_number, flat_written, unwritten_with}
 
 pub not_zero : (n : ℕ) → eqb (suc n) 0 ≡ false
 not_zero n = ne_eqb (suc n) 0 (λ h. omega (arith, h))
@@ -22,3 +24,8 @@ flag_same (suc n) = simp (not_zero n)
 -- what holds where a test succeeds need not be shown where it fails
 pub never : {X : Type 0} → false ≡ true → X
 never e = absurd (true≢false (sym e))
+
+-- a string that is too long comes before a field that breaks its rule
+pub refused : (long : Bool) → flat_written (Err (cond long TooLong BadField)) ≡ unwritten_with (cond long 6 9)
+refused true = refl
+refused false = refl

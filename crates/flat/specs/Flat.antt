@@ -1,11 +1,7 @@
 -- What the flat records for callers in C share.
 use Rattle.std.specs.Prelude.{ℕ, Bool, cond, eqb}
-use Rattle.fields.specs.Promise.{number, count}
-use Rattle.fields.specs.declared.Written.{Written}
-use Rattle.strings.specs.declared.Text.{Text}
-use Rattle.strings.specs.declared.Text.TheVariants.{Found, Refused}
+use Rattle.fields.specs.Promise.{Written, number, count}
 use Rattle.flat.specs.declared.FlatWritten.{FlatWritten}
-use Rattle.flat.specs.declared.FlatName.{FlatName}
 
 -- A flag is set where its number is not 0. The number given stays where it stands for the same, so that a record unchanged is the record given.
 abbrev pub flag_number : ℕ → Bool → ℕ
@@ -20,6 +16,5 @@ abbrev pub unwritten_with : ℕ → FlatWritten
 unwritten_with n = record { length = 0; answer = n }
 
 -- the length of a name, or the number of its refusal
-abbrev pub flat_name : Text → FlatName
-flat_name (Found n) = record { length = n; answer = 0 }
-flat_name (Refused n) = record { length = 0; answer = n }
+abbrev pub flat_name : Written → FlatWritten
+flat_name = flat_written

@@ -1,12 +1,9 @@
 -- The fields of a request as a flat record.
-use Rattle.std.specs.Prelude.{ℕ, ◌≡◌, List}
+use Rattle.std.specs.Prelude.{ℕ, ◌≡◌, Option, Some, None, List}
 use Rattle.calls.specs.declared.Call.{Call}
 use Rattle.calls.specs.declared.Call.TheVariants.{Osrdch, Oscli, OsbyteLow, OsbyteHigh, Osword, Osword0, Osargs, Osbget, Osbput, OsfindClose, OsfindOpen, Osfile, Osgbpb}
 use Rattle.flat_kind.specs.Kinds.{no_call_number}
-use Rattle.request.specs.declared.Asked.{Asked}
-use Rattle.request.specs.declared.RequestRead.{RequestRead}
-use Rattle.request.specs.declared.RequestRead.TheVariants.{Fields, NoCall}
-use Rattle.request.specs.Promise.{IsRequestRead}
+use Rattle.request.specs.Promise.{Asked, IsRequestRead}
 use Rattle.flat_asked.specs.declared.FlatAsked.{FlatAsked}
 
 abbrev pub asked_with : Asked → ℕ → ℕ → ℕ → ℕ → ℕ → FlatAsked
@@ -30,12 +27,12 @@ asked_as r (Osfile a) = asked_with r 11 0 0 a 0
 asked_as r (Osgbpb a) = asked_with r 12 0 0 a 0
 
 -- the flat form of what was read; of no call everything else is 0
-abbrev pub flat_asked : RequestRead → FlatAsked
-flat_asked (Fields r) = asked_as r r.call
-flat_asked NoCall = record { block_start = 0; block_length = 0; text_start = 0; text_length = 0; call = no_call_number; x = 0; y = 0; a = 0; out_length = 0 }
+abbrev pub flat_asked : Option Asked → FlatAsked
+flat_asked (Some r) = asked_as r r.said
+flat_asked None = record { block_start = 0; block_length = 0; text_start = 0; text_length = 0; call = no_call_number; x = 0; y = 0; a = 0; out_length = 0 }
 
 -- What `read_request` promises of the code, the body and the result: it is the flat form of what the reading below it gives.
 pub record FlatAskedDone (code : ℕ) (s : List ℕ) (r : FlatAsked) : Type 0 where
-  pub read : RequestRead
+  pub read : Option Asked
   pub done : IsRequestRead code s read
   pub is : r ≡ flat_asked read

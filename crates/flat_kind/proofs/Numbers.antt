@@ -2,9 +2,13 @@
 use Prim.Native.Nat.{ℕ, zero, suc, ◌≤◌, ◌<◌}
 use native.Mathlib.Omega.{arith}
 use mathlib.Core.Path.{◌≡◌, refl}
+use mathlib.Core.Bool.{Bool, true, false, cond}
+use lib.Dec.{leb}
+use borrow.Author.Tests.{leb-true, leb-false}
+use Rattle.std.specs.Prelude.{Some, None}
 use Rattle.kind.specs.declared.CallKind.{CallKind}
 use Rattle.kind.specs.declared.CallKind.TheVariants.{Osrdch, Oscli, OsbyteLow, OsbyteHigh, Osword, Osword0, Osargs, Osbget, Osbput, OsfindClose, OsfindOpen, Osfile, Osgbpb}
-use Rattle.flat_kind.specs.Kinds.{kind_at, kind_number, kind_out}
+use Rattle.flat_kind.specs.Kinds.{kind_at, last_call, known_kind, kind_number, kind_out}
 
 -- what holds of the numbers below m, one by one, holds of every one of them
 unfoldable pub Each : (ℕ → Type 0) → ℕ → Type 0
@@ -57,3 +61,18 @@ pub kind_same : (out n : ℕ) → n < 13 → KindSame out n
 unfolding Each
 kind_same out = each (KindSame out) 13
     ((refl, refl), ((refl, refl), ((refl, refl), ((refl, refl), ((refl, refl), ((refl, refl), ((refl, refl), ((refl, refl), ((refl, refl), ((refl, refl), ((refl, refl), ((refl, refl), ((refl, refl), tt)))))))))))))
+
+-- a number of a call, and one of none
+pub kind_known : (n out : ℕ) {k : CallKind} → Some k ≡ known_kind n out → (n ≤ last_call) × (k ≡ kind_at n out)
+kind_known n out {k} e = go (leb n last_call) refl e
+  where
+    go : (t : Bool) → leb n last_call ≡ t → Some k ≡ cond t (Some (kind_at n out)) None → (n ≤ last_call) × (k ≡ kind_at n out)
+    go true low e = (leb-true n last_call low, cc)
+    go false high e = cc
+
+pub kind_unknown : (n out : ℕ) → None ≡ known_kind n out → last_call < n
+kind_unknown n out e = go (leb n last_call) refl e
+  where
+    go : (t : Bool) → leb n last_call ≡ t → None ≡ cond t (Some (kind_at n out)) None → last_call < n
+    go true low e = cc
+    go false high e = leb-false n last_call high

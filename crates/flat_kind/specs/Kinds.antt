@@ -1,9 +1,7 @@
 -- The kinds of call by number, and what `kind_of` promises.
-use Rattle.std.specs.Prelude.{ℕ, ◌≡◌, cond, List, eqb}
+use Rattle.std.specs.Prelude.{ℕ, ◌≡◌, cond, List, eqb, leb, Option, Some, None}
 use Rattle.serial_rules.specs.Reply.{kind_in}
 use Rattle.kind.specs.Kinds.{found_for}
-use Rattle.kind.specs.declared.Found.{Found}
-use Rattle.kind.specs.declared.Found.TheVariants.{Known, NoCall}
 use Rattle.kind.specs.declared.CallKind.{CallKind}
 use Rattle.kind.specs.declared.CallKind.TheVariants.{Osrdch, Oscli, OsbyteLow, OsbyteHigh, Osword, Osword0, Osargs, Osbget, Osbput, OsfindClose, OsfindOpen, Osfile, Osgbpb}
 use Rattle.flat_kind.specs.declared.FlatKind.{FlatKind}
@@ -27,6 +25,10 @@ kind_at n out =
 
 abbrev pub last_call : ℕ
 last_call = 12
+
+-- the kind of a number, if a call has it
+abbrev pub known_kind : ℕ → ℕ → Option CallKind
+known_kind n out = cond (leb n last_call) (Some (kind_at n out)) None
 
 abbrev pub kind_number : CallKind → ℕ
 kind_number Osrdch = 0
@@ -64,12 +66,12 @@ abbrev pub no_call_number : ℕ
 no_call_number = 255
 
 -- the flat form of a kind found: only OSWORD has an out length
-abbrev pub flat_found : Found → FlatKind
-flat_found (Known kind) = record { call = kind_number kind; out_length = kind_out 0 kind }
-flat_found NoCall = record { call = no_call_number; out_length = 0 }
+abbrev pub flat_found : Option CallKind → FlatKind
+flat_found (Some kind) = record { call = kind_number kind; out_length = kind_out 0 kind }
+flat_found None = record { call = no_call_number; out_length = 0 }
 
 -- What `kind_of` promises of the code and the body of a request, and the result: it is the flat form of what was found.
 pub record FlatKindDone (code : ℕ) (body : List ℕ) (r : FlatKind) : Type 0 where
-  pub found : Found
+  pub found : Option CallKind
   pub done : found_for found ≡ kind_in code body
   pub is : r ≡ flat_found found

@@ -3,13 +3,13 @@
 #![tactic(auto)]
 
 ghost use Rattle.std.specs.Prelude.{◌≤◌, ◌≡◌};
-ghost use Rattle.flat_kind.specs.Kinds.{kind_at, kind_number, kind_out, FlatKindDone};
+ghost use Rattle.flat_kind.specs.Kinds.{kind_at, known_kind, kind_number, kind_out, flat_found, FlatKindDone};
 
-use kind::{CallKind, Found};
+use kind::CallKind;
 
 // The kind of a call: its number, and OSWORD's out length, else 0; or no call.
 #[repr(C)]
-#[derive(Clone, Copy)]
+#[derive(Clone, Copy, PartialEq, Eq, Debug)]
 pub struct FlatKind {
     pub call: u8,
     pub out_length: u8,
@@ -22,23 +22,43 @@ impl FlatKind {
     pub const NONE: u8 = 255;
 }
 
+impl From<Option<CallKind>> for FlatKind {
+    // A kind, or no call.
+    fn from(found: Option<CallKind>) -> FlatKind
+        ensures { result ≡ flat_found found }
+    {
+        match found {
+            Some(kind) => FlatKind {
+                call: kind_number(kind),
+                out_length: kind_out(0, kind),
+            },
+            None => FlatKind {
+                call: FlatKind::NONE,
+                out_length: 0,
+            },
+        }
+    }
+}
+
 // The kind of a finished request: see `kind::CallKind::of_request`.
 pub fn kind_of(code: u8, body: &[u8]) -> FlatKind
     ensures { FlatKindDone code body.now result }
 {
-    match CallKind::of_request(code, body) {
-        Found::Known(kind) => FlatKind {
-            call: kind_number(kind),
-            out_length: kind_out(0, kind),
-        },
-        Found::NoCall => FlatKind {
-            call: FlatKind::NONE,
-            out_length: 0,
-        },
+    FlatKind::from(CallKind::of_request(code, body))
+}
+
+// The kind of a number, with OSWORD's out length, if a call has the number.
+pub fn known_kind(n: u8, out_length: u8) -> Option<CallKind>
+    ensures { result ≡ known_kind n out_length }
+{
+    if n <= FlatKind::LAST {
+        Some(kind_at(n, out_length))
+    } else {
+        None
     }
 }
 
-// The kind of a number, with OSWORD's out length.
+// The same of a number of a call; one above the last falls to the last.
 pub fn kind_at(n: u8, out_length: u8) -> CallKind
     ensures { result ≡ kind_at n out_length }
 {
@@ -84,18 +104,7 @@ pub fn kind_out(given: u8, kind: CallKind) -> u8
     ensures { result ≡ kind_out given kind }
 {
     match kind {
-        CallKind::Osrdch => given,
-        CallKind::Oscli => given,
-        CallKind::OsbyteLow => given,
-        CallKind::OsbyteHigh => given,
         CallKind::Osword(n) => n,
-        CallKind::Osword0 => given,
-        CallKind::Osargs => given,
-        CallKind::Osbget => given,
-        CallKind::Osbput => given,
-        CallKind::OsfindClose => given,
-        CallKind::OsfindOpen => given,
-        CallKind::Osfile => given,
-        CallKind::Osgbpb => given,
+        _ => given,
     }
 }

@@ -1,4 +1,5 @@
 -- A byte of the reply on the flat record as it is: a step of the link that needs more, or that finishes the reply.
+use Rattle.std.specs.Prelude.{Ok}
 use Prim.Native.Nat.{ℕ, ◌+◌, ◌-◌, ◌≤◌, ◌<◌}
 use native.Mathlib.Omega.{arith}
 use mathlib.Core.Path.{◌≡◌, refl, sym, ap, ◌∙◌}
@@ -38,10 +39,10 @@ limited n m x y other = go (ltb n m) refl
     go false u e = absurd (other e)
 
 not_more : refused 7 ≡ more → ⊥
-not_more e = let z : ◌≡◌ {A = ℕ} 0 1 = cc in omega arith
+not_more e = cc
 
 not_done : refused 7 ≡ done → ⊥
-not_done e = let z : ◌≡◌ {A = ℕ} 0 1 = cc in omega arith
+not_done e = cc
 
 -- the turn of the shape that the code finds, by whether the record is within its limits
 module _ (f : FlatLink) (x : ℕ) {k : CallKind} (s : Found) {m : ℕ} (p : k ≡ kind_at (f.wait - 1) f.out_length) (q : shape_for s ≡ shape_of (kind_for k))
@@ -55,12 +56,10 @@ module _ (f : FlatLink) (x : ℕ) {k : CallKind} (s : Found) {m : ℕ} (p : k �
   pub beyond : m ≤ f.got → (refused 7 ≡ turn_in f x) × ((refused 7 ≡ refused 7 → ⊥) → f.got < reply_lent)
   beyond above = (rw (← is_shape, ← l.0, le-ltb f.got m above), λ no. absurd (no refl))
 
--- a turn that goes on, or that ends the reply, is no refusal
-pub goes_on : {t : code.Turn} → t ≡ code-turns.More → turn_of t ≡ refused 7 → ⊥
-goes_on e z = not_more (sym z ∙ ap turn_of e)
-
-pub comes_to_end : {t : code.Turn} → t ≡ code-turns.Done → turn_of t ≡ refused 7 → ⊥
-comes_to_end e z = not_done (sym z ∙ ap turn_of e)
+-- a byte that is taken is not refused
+pub taken : (t : code.Turn) → turn_of (Ok t) ≡ refused 7 → ⊥
+taken code-turns.More e = cc
+taken code-turns.Done e = cc
 
 module _ {f : FlatLink} {x : ℕ} (h : ReplyByte f x) where
   in_range : tags_ok f ≡ true

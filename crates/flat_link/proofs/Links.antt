@@ -8,6 +8,7 @@ use lib.ListN.{length}
 use Rattle.serial_rules.specs.Link as rules
 use Rattle.kind.specs.declared.CallKind.{CallKind}
 use Rattle.link.specs.declared.Link.{Link}
+use Rattle.refusal.specs.declared.Refusal.TheVariants.{Stopped}
 use Rattle.answers.specs.declared.Answer.TheVariants as variant
 use Rattle.link.specs.declared.Stepped.{Stepped}
 use Rattle.link.specs.declared.Started.{Started}
@@ -15,7 +16,6 @@ use Rattle.link_loop.specs.declared.Ran.{Ran}
 use Rattle.link.specs.View.{begun_of, BeginDone, BeginNoneDone, StepDone}
 use Rattle.link_loop.specs.Run.{RunDone}
 use Rattle.link_record.specs.declared.FlatLink.{FlatLink}
-use Rattle.notes.proofs.Laws.{not_both}
 use Rattle.flat_link.specs.declared.FlatTold.{FlatTold}
 use Rattle.flat_link.specs.declared.FlatRan.{FlatRan}
 use Rattle.flat_link.specs.declared.FlatBegun.{FlatBegun}
@@ -35,11 +35,11 @@ module _ {f : FlatLink} {reply own : List ℕ} {x : ℕ} {r : FlatTold} where
       done = subst (λ (l : Link). StepDone l reply own x s reply-left own-left) u d;
       is = q ∙ ap (λ (h : FlatLink). flat_told h s.answer) p;
     };
-    unknown = λ out. absurd (not_both ok out);
+    unknown = λ out. cc;
   }
 
-  pub step_unknown : tags_ok f ≡ false → r ≡ flat_told f (variant.Refused 7) → FlatStepDone f reply own x r reply own
-  step_unknown out q = record { known = λ ok. absurd (not_both ok out); unknown = λ _. (q, refl, refl) }
+  pub step_unknown : tags_ok f ≡ false → r ≡ flat_told f (variant.Refused Stopped) → FlatStepDone f reply own x r reply own
+  step_unknown out q = record { known = λ ok. cc; unknown = λ _. (q, refl, refl) }
 
 -- the loop, by whether the numbers are in range
 module _ {f : FlatLink} {reply own raw room content : List ℕ} {r : FlatRan} where
@@ -48,11 +48,11 @@ module _ {f : FlatLink} {reply own raw room content : List ℕ} {r : FlatRan} wh
   ran_known {l} {o} {reply-left} {own-left} {room-left} {content-left} ok u d e =
       record {
         known = λ _. record { ran = o; done = subst (λ (q : Link). RunDone q reply own raw room content o reply-left own-left room-left content-left) u d; is = e };
-        unknown = λ out. absurd (not_both ok out);
+        unknown = λ out. cc;
       }
 
   pub ran_unknown : tags_ok f ≡ false → r ≡ flat_unknown f (length raw) (length room) (length content) → FlatRunDone f reply own raw room content r reply own room content
-  ran_unknown out e = record { known = λ ok. absurd (not_both ok out); unknown = λ _. (e, refl, refl, refl, refl) }
+  ran_unknown out e = record { known = λ ok. cc; unknown = λ _. (e, refl, refl, refl, refl) }
 
 -- the record of a begun call's flat result
 begun_link : (f : FlatLink) (b : rules.Begun) → (flat_begun f b).link ≡ f
@@ -67,7 +67,7 @@ module _ {f : FlatLink} {call out : ℕ} {r : FlatBegun} where
   begin_known {s = s} ok low u w d q = record {
     known = λ _ _. record { started = s; done = rw (u, w) at d; is = q };
     no_call = λ _ high. absurd (omega arith);
-    unknown = λ off. absurd (not_both ok off);
+    unknown = λ off. cc;
   }
 
   pub begin_no_call : {l : Link} {s : Started} → tags_ok f ≡ true → last_call < call → l ≡ link_of f → BeginNoneDone l s → r ≡ flat_started f s
@@ -78,8 +78,8 @@ module _ {f : FlatLink} {call out : ℕ} {r : FlatBegun} where
       record { started = s; done = rw u at d; is = q },
       ap (λ (b : FlatBegun). b.link) q ∙ begun_link (flat_of f s.link) (begun_of s.answer) ∙ ap (flat_of f) (d.kept ∙ u) ∙ flat_back f ok,
     );
-    unknown = λ off. absurd (not_both ok off);
+    unknown = λ off. cc;
   }
 
   pub begin_unknown : tags_ok f ≡ false → r ≡ flat_begun f (rules.denied 7) → FlatBeginDone f call out r
-  begin_unknown off q = record { known = λ ok _. absurd (not_both ok off); no_call = λ ok _. absurd (not_both ok off); unknown = λ _. q }
+  begin_unknown off q = record { known = λ ok _. cc; no_call = λ ok _. cc; unknown = λ _. q }

@@ -1,4 +1,5 @@
 -- A stream read through flat records is one read by the link that they stand for: so what is proved of streams is said of the exports.
+use Rattle.std.specs.Prelude.{Option, Some, None}
 use Prim.Native.Nat.{ℕ, ◌<◌}
 use mathlib.Core.Path.{◌≡◌, refl, sym, ap, subst, ◌∙◌}
 use native.Mathlib.Omega.{arith}
@@ -7,11 +8,11 @@ use lib.Dec.{ltb}
 use borrow.Author.Tests.{ltb-true}
 use mathlib.Core.List.{List}
 use Rattle.serial_rules.specs.Link as rules
+use Rattle.actions.specs.declared.Action.{Action}
 use Rattle.link.specs.declared.Link.{Link}
+use Rattle.refusal.specs.Refusals.{refusal_at}
 use Rattle.answers.specs.declared.Answer.{Answer}
 use Rattle.link.specs.declared.Stepped.{Stepped}
-use Rattle.link.specs.declared.Doing.{Doing}
-use Rattle.link.specs.declared.Doing.TheVariants.{Quiet, Open}
 use Rattle.actions.specs.declared.Action.TheVariants.{Error, Event, Address, Block}
 use Rattle.link.specs.View.{own_room, usable_of, view_of, StepDone}
 use Rattle.answers.specs.Reports.{answer_for}
@@ -43,12 +44,12 @@ link_is f variant.Restart = refl
 link_is f (variant.Refused n) = refl
 
 -- a step leaves a link in range: a usable record is, and any other is the one given, stopped or not
-own_ranged : (d : Doing) (n : ℕ) → n < own_room d → RangedDoing d
-own_ranged Quiet n h = tt
-own_ranged (Open Error) n h = tt
-own_ranged (Open Event) n h = tt
-own_ranged (Open (Address t)) n h = tt
-own_ranged (Open (Block k)) n h =
+own_ranged : (d : Option Action) (n : ℕ) → n < own_room d → RangedDoing d
+own_ranged None n h = tt
+own_ranged (Some Error) n h = tt
+own_ranged (Some Event) n h = tt
+own_ranged (Some (Address t)) n h = tt
+own_ranged (Some (Block k)) n h =
     choice (λ (m : ℕ). n < m → (0 < k) × (k < 128)) (ltb k 0x80) (λ e r. (omega arith, ltb-true k 0x80 e)) (λ _ r. absurd (omega arith)) h
 
 step_ranged : {l : Link} {reply own reply-left own-left : List ℕ} {x : ℕ} {o : Stepped} → StepDone l reply own x o reply-left own-left → Ranged l → Ranged o.link
@@ -58,12 +59,12 @@ step_ranged {l} {reply} {own} {reply-left} {own-left} {x} {o} d h = go (usable_o
     stopped u = let off : view_of o.link reply-left own-left ≡ rules.stopped = rw u in sym d.next ∙ off
 
     refused : {r : rules.Report} → Refuses r → (view_of l reply own ≡ rules.stopped → ⊥) → o.answer ≡ answer_for r → Ranged o.link
-    refused (refuses n) runs e = subst Ranged (sym (d.stops n runs e)) h
+    refused (refuses n) runs e = subst Ranged (sym (d.stops (refusal_at n) runs e)) h
 
     go : (t : Bool) → usable_of o.link ≡ t → (s : Bool) → usable_of l ≡ s → Ranged o.link
     go true u s v = (nested_low o.link u, own_ranged o.link.doing o.link.held (usable_held o.link u))
     go false u false v = let off : view_of l reply own ≡ rules.stopped = rw v in subst Ranged (sym (d.kept off)) h
-    go false u true v = refused (stops (view_of l reply own) x (stopped u)) (rw v (λ e. let z : ◌≡◌ {A = ℕ} 0 1 = cc in omega arith)) d.answer_is
+    go false u true v = refused (stops (view_of l reply own) x (stopped u)) (rw v (λ e. cc)) d.answer_is
 
 -- the record that a byte leaves is in range again, and stands for the link that the step left
 module _ {f : FlatLink} {reply own reply-left own-left : List ℕ} {x : ℕ} {o : FlatTold} (ok : tags_ok f ≡ true) (d : FlatStepDone f reply own x o reply-left own-left) where

@@ -27,7 +27,7 @@ turn_in f raw = cond (ltb f.got (longest (shape_in f))) (shape_turn (shape_in f)
 
 -- the record after one more byte of the reply, and after its last
 abbrev pub placed_next : FlatLink → FlatLink
-placed_next f = record { got = f.got + 1; held = f.held; wait = f.wait; out_length = f.out_length; action = f.action; flags = f.flags }
+placed_next f = record f { got = f.got + 1 }
 
 abbrev pub placed_idle : FlatLink → FlatLink
 placed_idle f = record { got = 0; held = 0; wait = 0; out_length = f.out_length; action = 0; flags = 0 }

@@ -1,14 +1,15 @@
 -- What a begun call and a raw byte give, as flat records.
-use Rattle.std.specs.Prelude.{ℕ, ◌≤◌, ◌<◌, ◌≡◌, true, false, List}
+use Rattle.std.specs.Prelude.{ℕ, ◌≤◌, ◌<◌, ◌≡◌, true, false, cond, List}
 use Rattle.serial_rules.specs.Link as rules
 use Rattle.actions.specs.Actions.{target_for}
+use Rattle.refusal.specs.declared.Refusal.TheVariants.{Stopped}
+use Rattle.refusal.specs.Refusals.{number}
 use Rattle.answers.specs.declared.Answer.{Answer}
 use Rattle.answers.specs.declared.Answer.TheVariants as variant
 use Rattle.link.specs.declared.Stepped.{Stepped}
 use Rattle.link.specs.declared.Started.{Started}
 use Rattle.link.specs.View.{begun_of, BeginDone, BeginNoneDone, StepDone}
 use Rattle.notes.specs.Notes.{address_kind}
-use Rattle.flat.specs.Flat.{flag_number}
 use Rattle.link_record.specs.declared.FlatLink.{FlatLink}
 use Rattle.flat_link.specs.declared.FlatTold.{FlatTold}
 use Rattle.flat_link.specs.declared.FlatBegun.{FlatBegun}
@@ -24,15 +25,15 @@ abbrev pub flat_told : FlatLink → Answer → FlatTold
 flat_told f variant.More = told_with f 0 0 0
 flat_told f (variant.Character b) = told_with f 1 b 0
 flat_told f (variant.Reply n) = told_with f 5 0 n
-flat_told f (variant.EscapeState on) = told_with f 2 (flag_number 0 on) 0
+flat_told f (variant.EscapeState on) = told_with f 2 (cond on 1 0) 0
 flat_told f (variant.Event y x a) = record { link = f; length = 0; kind = 3; first = y; second = x; third = a; fourth = 0 }
 flat_told f (variant.Address t b3 b2 b1 b0) = record { link = f; length = 0; kind = address_kind (target_for t); first = b3; second = b2; third = b1; fourth = b0 }
 flat_told f (variant.Block n) = told_with f 9 0 n
 flat_told f (variant.Loaded b) = told_with f 13 b 0
-flat_told f (variant.Ended save) = told_with f 14 (flag_number 0 save) 0
+flat_told f (variant.Ended save) = told_with f 14 (cond save 1 0) 0
 flat_told f (variant.Error n k) = told_with f 6 n k
 flat_told f variant.Restart = told_with f 7 0 0
-flat_told f (variant.Refused n) = told_with f 8 n 0
+flat_told f (variant.Refused r) = told_with f 8 (number r) 0
 
 -- the link of the record took a step, and its result is flat
 pub record FlatLinkStepped (f : FlatLink) (reply own : List ℕ) (raw : ℕ) (r : FlatTold) (reply-left own-left : List ℕ) : Type 0 where
@@ -44,7 +45,7 @@ pub record FlatLinkStepped (f : FlatLink) (reply own : List ℕ) (raw : ℕ) (r 
 -- as a stopped link does, and the record is the one given.
 pub record FlatStepDone (f : FlatLink) (reply own : List ℕ) (raw : ℕ) (r : FlatTold) (reply-left own-left : List ℕ) : Type 0 where
   pub known : tags_ok f ≡ true → FlatLinkStepped f reply own raw r reply-left own-left
-  pub unknown : tags_ok f ≡ false → (r ≡ flat_told f (variant.Refused 7)) × (reply-left ≡ reply) × (own-left ≡ own)
+  pub unknown : tags_ok f ≡ false → (r ≡ flat_told f (variant.Refused Stopped)) × (reply-left ≡ reply) × (own-left ≡ own)
 
 -- kind 0 waits, 1 is complete, 2 is refused by number
 abbrev pub flat_begun : FlatLink → rules.Begun → FlatBegun

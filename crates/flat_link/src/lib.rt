@@ -12,11 +12,11 @@ ghost use Rattle.turns.specs.Turns.{turn_of};
 
 use answers::Answer;
 use escape::Piece;
-use flat_kind::FlatKind;
 use kind::CallKind;
 use link::{Begun, Link, Started};
 use link_loop::Ran;
 use link_record::FlatLink;
+use refusal::Refusal;
 use turns::Turn;
 
 // What a raw byte gives: kind 0 needs more; 1 is a character (first); 2 the Escape state (first, 0 or 1); 3 an event (Y, X, A); 4 an address
@@ -25,7 +25,7 @@ use turns::Turn;
 // bytes); 10 execute, 11 a load, 12 a save (first to fourth, as of an address); 13 load data (first); 14 the end of a load (first is 0) or save (1).
 // What is not named is 0. It is three words without padding, so that it can be copied word by word.
 #[repr(C)]
-#[derive(Clone, Copy)]
+#[derive(Clone, Copy, PartialEq, Eq, Debug)]
 pub struct FlatTold {
     pub link: FlatLink,
     pub length: usize,
@@ -38,7 +38,7 @@ pub struct FlatTold {
 
 // What a begun call gives: kind 0 waits, 1 is complete, 2 is refused with the number `answer`, which is else 0.
 #[repr(C)]
-#[derive(Clone, Copy)]
+#[derive(Clone, Copy, PartialEq, Eq, Debug)]
 pub struct FlatBegun {
     pub link: FlatLink,
     pub kind: u8,
@@ -47,7 +47,7 @@ pub struct FlatBegun {
 
 // What the loop over raw bytes gives: where it ended, how many of them it used, how many notes it wrote, and how many bytes of data.
 #[repr(C)]
-#[derive(Clone, Copy)]
+#[derive(Clone, Copy, PartialEq, Eq, Debug)]
 pub struct FlatRan {
     pub told: FlatTold,
     pub used: usize,
@@ -59,14 +59,13 @@ pub struct FlatRan {
 pub fn begin(link: FlatLink, call: u8, out_length: u8) -> FlatBegun
     ensures { FlatBeginDone link call out_length result }
 {
-    if link_record::has_tags(link) {
-        let at = link_record::unflattened(link);
-        if call <= FlatKind::LAST {
-            return flat_started(link, at.begin(flat_kind::kind_at(call, out_length)));
-        }
-        return flat_started(link, at.begin_none());
+    let Some(at) = link.link() else {
+        return flat_begun(link, Err(Refusal::Stopped));
+    };
+    match flat_kind::known_kind(call, out_length) {
+        Some(kind) => flat_started(link, at.begin(kind)),
+        None => flat_started(link, at.begin_none()),
     }
-    flat_begun(link, Begun::Denied(7))
 }
 
 // One raw byte: see `link_step::step`.
@@ -95,20 +94,18 @@ fn step_reply(
     ensures { FlatStepDone link reply.old own.old raw result reply.new own.new }
 {
     let at = link.got as usize;
-    let turn = reply_turn(link, raw);
-    match turn {
-        Turn::More => {
-            // As a slice, whose length the proof knows.
-            let lent: &mut [u8] = reply;
-            lent[at] = raw;
-            told(next_place(link), 0, 0, 0)
-        }
-        Turn::Done => {
-            let lent: &mut [u8] = reply;
-            lent[at] = raw;
-            told(idle(link), 5, 0, at + 1)
-        }
-        Turn::Refused(_) => step_unflattened(link, raw, reply, own),
+    match reply_turn(link, raw) {
+        Ok(turn) => match turn {
+            Turn::More => {
+                reply[at] = raw;
+                told(next_place(link), 0, 0, 0)
+            }
+            Turn::Done => {
+                reply[at] = raw;
+                told(idle(link), 5, 0, at + 1)
+            }
+        },
+        Err(_) => step_unflattened(link, raw, reply, own),
     }
 }
 
@@ -121,39 +118,27 @@ fn step_unflattened(
 ) -> FlatTold
     ensures { FlatStepDone link reply.old own.old raw result reply.new own.new }
 {
-    if link_record::has_tags(link) {
-        let stepped = link_step::step(link_record::unflattened(link), raw, reply, own);
-        let answer = stepped.answer;
-        let next = stepped.link;
-        return flat_told(link_record::flattened(link, next), answer);
-    }
-    flat_told(link, Answer::Refused(7))
+    let Some(at) = link.link() else {
+        return flat_told(link, Answer::Refused(Refusal::Stopped));
+    };
+    let stepped = link_step::step(at, raw, reply, own);
+    flat_told(link_record::flattened(link, stepped.link), stepped.answer)
 }
 
 // Whether a raw byte is one of the reply that a call waits for: no action is open, no escape seen.
 fn is_reply_byte(link: FlatLink, raw: u8) -> bool
     ensures { result ≡ true → ReplyByte link raw }
 {
-    if raw == Piece::ESCAPE {
-        return false;
-    }
-    if link.wait == 0 {
-        return false;
-    }
-    if 13 < link.wait {
-        return false;
-    }
-    if link.flags != 0 {
-        return false;
-    }
-    if link.action != 0 {
-        return false;
-    }
-    link.held == 0
+    raw != Piece::ESCAPE
+        && link.wait != 0
+        && link.wait <= 13
+        && link.flags == 0
+        && link.action == 0
+        && link.held == 0
 }
 
 // What the byte does to the reply; refused where the record is over its limits.
-fn reply_turn(link: FlatLink, raw: u8) -> Turn
+fn reply_turn(link: FlatLink, raw: u8) -> Result<Turn, Refusal>
     requires { ReplyByte link raw }
     ensures { (turn_of result ≡ turn_in link raw) × ((turn_of result ≡ refused 7 → ⊥) → link.got < reply_lent) }
 {
@@ -162,7 +147,7 @@ fn reply_turn(link: FlatLink, raw: u8) -> Turn
     if at < shape.longest() {
         return shape.turn(at, raw);
     }
-    Turn::Refused(7)
+    Err(Refusal::Stopped)
 }
 
 // The record after one more byte of the reply, and after its last.
@@ -172,11 +157,7 @@ fn next_place(link: FlatLink) -> FlatLink
 {
     FlatLink {
         got: link.got + 1,
-        held: link.held,
-        wait: link.wait,
-        out_length: link.out_length,
-        action: link.action,
-        flags: link.flags,
+        ..link
     }
 }
 
@@ -184,12 +165,8 @@ fn idle(given: FlatLink) -> FlatLink
     ensures { result ≡ placed_idle given }
 {
     FlatLink {
-        got: 0,
-        held: 0,
-        wait: 0,
         out_length: given.out_length,
-        action: 0,
-        flags: 0,
+        ..link_record::fresh()
     }
 }
 
@@ -204,30 +181,18 @@ pub fn run(
 ) -> FlatRan
     ensures { FlatRunDone link reply.old own.old raw.now room.old content.old result reply.new own.new room.new content.new }
 {
-    if link_record::has_tags(link) {
-        return flat_ran(
-            link,
-            link_loop::run(
-                link_record::unflattened(link),
-                raw,
-                reply,
-                own,
-                room,
-                content,
-            ),
-        );
-    }
-    unknown(link, raw.len(), room.len(), content.len())
+    let Some(at) = link.link() else {
+        return unknown(link, raw.len(), room.len(), content.len());
+    };
+    flat_ran(link, link_loop::run(at, raw, reply, own, room, content))
 }
 
 // The loop's flat result, beside the record given.
 fn flat_ran(given: FlatLink, ran: Ran) -> FlatRan
     ensures { result ≡ flat_ran given ran }
 {
-    let answer = ran.answer;
-    let next = ran.link;
     FlatRan {
-        told: flat_told(link_record::flattened(given, next), answer),
+        told: flat_told(link_record::flattened(given, ran.link), ran.answer),
         used: ran.used,
         noted: ran.noted,
         stored: ran.stored,
@@ -240,20 +205,20 @@ fn unknown(link: FlatLink, bytes: usize, room: usize, content: usize) -> FlatRan
     ensures { result ≡ flat_unknown link bytes room content }
 {
     if link_loop::lacks_room(link.held, bytes, room, content) {
-        return unnoted(flat_told(link, Answer::Refused(8)), 0);
+        return unnoted(flat_told(link, Answer::Refused(Refusal::NoRoom)), 0);
     }
     if bytes == 0 {
         return unnoted(flat_told(link, Answer::More), 0);
     }
-    unnoted(flat_told(link, Answer::Refused(7)), 1)
+    unnoted(flat_told(link, Answer::Refused(Refusal::Stopped)), 1)
 }
 
 fn unnoted(told: FlatTold, used: usize) -> FlatRan
     ensures { result ≡ ran_with told used }
 {
     FlatRan {
-        told: told,
-        used: used,
+        told,
+        used,
         noted: 0,
         stored: 0,
     }
@@ -267,15 +232,11 @@ fn flat_told(link: FlatLink, answer: Answer) -> FlatTold
         Answer::More => told(link, 0, 0, 0),
         Answer::Character(b) => told(link, 1, b, 0),
         Answer::Reply(n) => told(link, 5, 0, n),
-        Answer::EscapeState(on) => told(link, 2, flat::flag_number(0, on), 0),
+        Answer::EscapeState(on) => told(link, 2, u8::from(on), 0),
         Answer::Event { y, x, a } => FlatTold {
-            link: link,
-            length: 0,
-            kind: 3,
-            first: y,
             second: x,
             third: a,
-            fourth: 0,
+            ..told(link, 3, y, 0)
         },
         Answer::Address {
             target,
@@ -284,20 +245,17 @@ fn flat_told(link: FlatLink, answer: Answer) -> FlatTold
             b1,
             b0,
         } => FlatTold {
-            link: link,
-            length: 0,
-            kind: notes::address_kind(target) as u32,
-            first: b3,
             second: b2,
             third: b1,
             fourth: b0,
+            ..told(link, u32::from(notes::address_kind(target)), b3, 0)
         },
         Answer::Block(n) => told(link, 9, 0, n),
         Answer::Loaded(b) => told(link, 13, b, 0),
-        Answer::Ended { save } => told(link, 14, flat::flag_number(0, save), 0),
+        Answer::Ended { save } => told(link, 14, u8::from(save), 0),
         Answer::Error { number, length } => told(link, 6, number, length),
         Answer::Restart => told(link, 7, 0, 0),
-        Answer::Refused(n) => told(link, 8, n, 0),
+        Answer::Refused(refusal) => told(link, 8, refusal.number(), 0),
     }
 }
 
@@ -305,10 +263,10 @@ fn told(link: FlatLink, kind: u32, first: u8, length: usize) -> FlatTold
     ensures { result ≡ told_with link kind first length }
 {
     FlatTold {
-        link: link,
-        length: length,
-        kind: kind,
-        first: first,
+        link,
+        length,
+        kind,
+        first,
         second: 0,
         third: 0,
         fourth: 0,
@@ -319,29 +277,27 @@ fn told(link: FlatLink, kind: u32, first: u8, length: usize) -> FlatTold
 fn flat_started(given: FlatLink, started: Started) -> FlatBegun
     ensures { result ≡ flat_started given started }
 {
-    let answer = started.answer;
-    let next = started.link;
-    flat_begun(link_record::flattened(given, next), answer)
+    flat_begun(link_record::flattened(given, started.link), started.answer)
 }
 
-fn flat_begun(link: FlatLink, begun: Begun) -> FlatBegun
+fn flat_begun(link: FlatLink, begun: Result<Begun, Refusal>) -> FlatBegun
     ensures { result ≡ flat_begun link (begun_of begun) }
 {
     match begun {
-        Begun::Waits => FlatBegun {
-            link: link,
+        Ok(Begun::Waits) => FlatBegun {
+            link,
             kind: 0,
             answer: 0,
         },
-        Begun::Complete => FlatBegun {
-            link: link,
+        Ok(Begun::Complete) => FlatBegun {
+            link,
             kind: 1,
             answer: 0,
         },
-        Begun::Denied(n) => FlatBegun {
-            link: link,
+        Err(refusal) => FlatBegun {
+            link,
             kind: 2,
-            answer: n,
+            answer: refusal.number(),
         },
     }
 }

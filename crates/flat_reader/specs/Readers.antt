@@ -1,5 +1,8 @@
 -- Flat records for callers in C: numbers for the enums, with total conversions. A tag out of range counts as exceeding the limits.
-use Rattle.std.specs.Prelude.{ℕ, ◌≡◌, Bool, true, false, cond, not, ◌&&◌, List, eqb, leb}
+use Rattle.std.specs.Prelude.{ℕ, ◌≡◌, Bool, true, false, cond, not, ◌&&◌, List, eqb, leb, Option, Some, None, Result, Ok, Err}
+use Rattle.refusal.specs.declared.Refusal.{Refusal}
+use Rattle.refusal.specs.declared.Refusal.TheVariants as refusal
+use Rattle.refusal.specs.Refusals.{number}
 use Rattle.carrier.specs.Carriers.{carrier_at, last_carrier, carrier_number}
 use Rattle.request_reader.specs.declared.Phase.{Phase}
 use Rattle.request_reader.specs.declared.Phase.TheVariants.{Outside, Inside, Stopped}
@@ -16,6 +19,10 @@ use Rattle.flat_reader.specs.declared.FlatRead.{FlatRead}
 abbrev pub phase_at : ℕ → Phase
 phase_at n = cond (eqb n 0) Outside (cond (eqb n 1) Inside Stopped)
 
+-- the phase of a number, or that it is none
+abbrev pub phase_from : ℕ → Option Phase
+phase_from n = cond (leb n 2) (Some (phase_at n)) None
+
 abbrev pub phase_number : Phase → ℕ
 phase_number Outside = 0
 phase_number Inside = 1
@@ -28,6 +35,10 @@ reader_of f =
 
 unfoldable pub tags_ok : FlatReader → Bool
 tags_ok f = leb f.carrier last_carrier && leb f.phase 2
+
+-- the reader of a record; one with a number out of range counts as stopped
+abbrev pub reader_from : FlatReader → Result Reader Refusal
+reader_from f = cond (tags_ok f) (Ok (reader_of f)) (Err refusal.Stopped)
 
 abbrev pub fresh_reader : ℕ → FlatReader
 fresh_reader carrier = record { count = 0; carrier = carrier; phase = 0; escape = 0; style = 0; code = 0 }
@@ -45,7 +56,7 @@ abbrev pub flat_read : FlatReader → Answer → FlatRead
 flat_read f More = flat_plain f 0 0
 flat_read f (Character b) = flat_plain f 1 b
 flat_read f (Request style code n) = record { reader = f; length = n; kind = 2; value = 0; style = style; code = code }
-flat_read f (Refused n) = flat_plain f 3 n
+flat_read f (Refused r) = flat_plain f 3 (number r)
 
 -- a step of the record's reader, and its result is flat
 pub record FlatReaderStepped (f : FlatReader) (lent : List ℕ) (raw : ℕ) (r : FlatRead) (left : List ℕ) : Type 0 where
@@ -57,4 +68,4 @@ pub record FlatReaderStepped (f : FlatReader) (lent : List ℕ) (raw : ℕ) (r :
 -- refuses the byte as a stopped reader does, and is unchanged.
 pub record FlatDone (f : FlatReader) (lent : List ℕ) (raw : ℕ) (r : FlatRead) (left : List ℕ) : Type 0 where
   pub known : tags_ok f ≡ true → FlatReaderStepped f lent raw r left
-  pub unknown : tags_ok f ≡ false → (r ≡ flat_read f (Refused 7)) × (left ≡ lent)
+  pub unknown : tags_ok f ≡ false → (r ≡ flat_read f (Refused refusal.Stopped)) × (left ≡ lent)

@@ -2,9 +2,10 @@
 #![tactic(auto)]
 
 ghost use Rattle.std.specs.Prelude.{◌≡◌};
-ghost use Rattle.flat_reader.specs.Readers.{phase_at, phase_number, reader_of, flat_of, flat_read, flat_plain, tags_ok};
+ghost use Rattle.flat_reader.specs.Readers.{phase_from, reader_from, flat_of, flat_read, flat_plain};
 
 use carrier::Carrier;
+use refusal::Refusal;
 use request_reader::{Answer, Phase, Reader};
 
 // A request reader with numbers for its enums: carrier 0 serial, 1 parallel; phase 0 outside a request, 1 inside, 2 stopped; an
@@ -48,18 +49,16 @@ pub fn flat_read(reader: FlatReader, answer: Answer) -> FlatRead
     match answer {
         Answer::More => flat(reader, 0, 0),
         Answer::Character(b) => flat(reader, 1, b),
-        Answer::Refused(n) => flat(reader, 3, n),
+        Answer::Refused(refusal) => flat(reader, 3, refusal.number()),
         Answer::Request {
             style,
             code,
             length,
         } => FlatRead {
-            reader: reader,
-            length: length as u32,
-            kind: 2,
-            value: 0,
-            style: style,
-            code: code,
+            length: u32::from(length),
+            style,
+            code,
+            ..flat(reader, 2, 0)
         },
     }
 }
@@ -68,73 +67,62 @@ fn flat(reader: FlatReader, kind: u8, value: u8) -> FlatRead
     ensures { result ≡ flat_plain reader kind value }
 {
     FlatRead {
-        reader: reader,
+        reader,
         length: 0,
-        kind: kind,
-        value: value,
+        kind,
+        value,
         style: 0,
         code: 0,
     }
 }
 
-// Whether the numbers of the carrier and of the phase are in range.
-pub fn has_tags(reader: FlatReader) -> bool
-    ensures { result ≡ tags_ok reader }
-{
-    if reader.carrier <= Carrier::LAST {
-        return reader.phase <= 2;
+impl TryFrom<FlatReader> for Reader {
+    type Error = Refusal;
+
+    // The reader of a flat record; one with a number out of range counts as stopped.
+    #[tactic(auto, unfolding(crate::specs::Readers::tags_ok))]
+    fn try_from(flat: FlatReader) -> Result<Reader, Refusal>
+        ensures { result ≡ reader_from flat }
+    {
+        let Ok(carrier) = Carrier::try_from(flat.carrier) else {
+            return Err(Refusal::Stopped);
+        };
+        let Some(phase) = phase_at(flat.phase) else {
+            return Err(Refusal::Stopped);
+        };
+        Ok(Reader {
+            carrier,
+            phase,
+            escape: flat.escape != 0,
+            style: flat.style,
+            code: flat.code,
+            count: flat.count,
+        })
     }
-    false
 }
 
-// The reader of a flat record, and its parts by number.
-pub fn unflattened(reader: FlatReader) -> Reader
-    ensures { result ≡ reader_of reader }
+// The phase of a number.
+fn phase_at(n: u8) -> Option<Phase>
+    ensures { result ≡ phase_from n }
 {
-    Reader {
-        carrier: Carrier::at(reader.carrier),
-        phase: phase_at(reader.phase),
-        escape: reader.escape != 0,
-        style: reader.style,
-        code: reader.code,
-        count: reader.count,
+    match n {
+        0 => Some(Phase::Outside),
+        1 => Some(Phase::Inside),
+        2 => Some(Phase::Stopped),
+        _ => None,
     }
-}
-
-fn phase_at(n: u8) -> Phase
-    ensures { result ≡ phase_at n }
-{
-    if n == 0 {
-        return Phase::Outside;
-    }
-    if n == 1 {
-        return Phase::Inside;
-    }
-    Phase::Stopped
 }
 
 // The flat record of a reader; `given` is the number of the escape that the caller's record had.
 fn flattened(given: u8, reader: Reader) -> FlatReader
     ensures { result ≡ flat_of given reader }
 {
-    let carrier = reader.carrier;
-    let phase = reader.phase;
     FlatReader {
         count: reader.count,
-        carrier: carrier.number(),
-        phase: phase_number(phase),
+        carrier: reader.carrier.number(),
+        phase: reader.phase as u8,
         escape: flat::flag_number(given, reader.escape),
         style: reader.style,
         code: reader.code,
-    }
-}
-
-fn phase_number(phase: Phase) -> u8
-    ensures { result ≡ phase_number phase }
-{
-    match phase {
-        Phase::Outside => 0,
-        Phase::Inside => 1,
-        Phase::Stopped => 2,
     }
 }

@@ -2,6 +2,8 @@
 use Rattle.std.specs.Prelude.{ℕ, ◌≤◌, ◌<◌, ◌≡◌, List}
 use Rattle.flat_kind.specs.Kinds.{last_call}
 use Rattle.kind.specs.declared.CallKind.{CallKind}
+use Rattle.refusal.specs.declared.Refusal.TheVariants.{NotCarried}
+use Rattle.refusal.specs.Refusals.{number}
 use Rattle.answers.specs.declared.Answer.{Answer}
 use Rattle.answers.specs.declared.Answer.TheVariants as variant
 use Rattle.recorded.specs.declared.Recorded.{Recorded}
@@ -10,7 +12,7 @@ use Rattle.flat_recorded.specs.declared.FlatRecorded.{FlatRecorded}
 
 -- The flat result: kind 0 ran out, 5 is a reply, 6 an error, 7 a restart, 8 a refusal; what it does not have is 0.
 abbrev pub recorded_with : Recorded → ℕ → ℕ → ℕ → FlatRecorded
-recorded_with q kind number n = record { used = q.used; noted = q.noted; stored = q.stored; length = n; kind = kind; number = number }
+recorded_with q kind value n = record { used = q.used; noted = q.noted; stored = q.stored; length = n; kind = kind; number = value }
 
 abbrev pub flat_end : Recorded → Answer → FlatRecorded
 flat_end q variant.More = recorded_with q 0 0 0
@@ -24,14 +26,14 @@ flat_end q (variant.Loaded b) = recorded_with q 0 0 0
 flat_end q (variant.Ended save) = recorded_with q 0 0 0
 flat_end q (variant.Error n k) = recorded_with q 6 n k
 flat_end q variant.Restart = recorded_with q 7 0 0
-flat_end q (variant.Refused n) = recorded_with q 8 n 0
+flat_end q (variant.Refused r) = recorded_with q 8 (number r) 0
 
 abbrev pub flat_recorded : Recorded → FlatRecorded
 flat_recorded q = flat_end q q.answer
 
 -- a call that is not carried is refused before the first byte
 abbrev pub not_called : Recorded
-not_called = record { answer = variant.Refused 4; used = 0; noted = 0; stored = 0 }
+not_called = record { answer = variant.Refused NotCarried; used = 0; noted = 0; stored = 0 }
 
 -- the recording was read, and its result is flat
 pub record IsFlatRecorded (kind : CallKind) (raw notes content out : List ℕ) (r : FlatRecorded) (notes-left content-left out-left : List ℕ) : Type 0 where

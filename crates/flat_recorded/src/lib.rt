@@ -6,14 +6,14 @@ ghost use Rattle.flat_kind.specs.Kinds.{kind_at};
 ghost use Rattle.flat_recorded.specs.Recordings.{recorded_with, flat_recorded, FlatRecordedDone};
 
 use answers::Answer;
-use flat_kind::FlatKind;
 use kind::CallKind;
 use recorded::Recorded;
+use refusal::Refusal;
 
 // What a recorded reply gives: the raw bytes used, the notes and the bytes of data; by its kind 0 the recording ran out, 5 is a reply (length), 6 an
 // error (number, and the length of its text), 7 a restart, 8 a refusal (number). What is not named is 0.
 #[repr(C)]
-#[derive(Clone, Copy)]
+#[derive(Clone, Copy, PartialEq, Eq, Debug)]
 pub struct FlatRecorded {
     pub used: usize,
     pub noted: usize,
@@ -34,42 +34,27 @@ pub fn read_recorded(
 ) -> FlatRecorded
     ensures { FlatRecordedDone call (kind_at call out_length) raw.now notes.old content.old out.old result notes.new content.new out.new }
 {
-    if call <= FlatKind::LAST {
-        let kind = flat_kind::kind_at(call, out_length);
-        return flat_recorded(recorded::read_recorded(kind, raw, notes, content, out));
+    match flat_kind::known_kind(call, out_length) {
+        Some(kind) => flat_recorded(recorded::read_recorded(kind, raw, notes, content, out)),
+        None => flat_recorded(Recorded {
+            answer: Answer::Refused(Refusal::NotCarried),
+            used: 0,
+            noted: 0,
+            stored: 0,
+        }),
     }
-    flat_recorded(Recorded {
-        answer: Answer::Refused(4),
-        used: 0,
-        noted: 0,
-        stored: 0,
-    })
 }
 
 // The flat result. The answers that are passed over end no recording.
 fn flat_recorded(read: Recorded) -> FlatRecorded
     ensures { result ≡ flat_recorded read }
 {
-    let answer = read.answer;
-    match answer {
-        Answer::More => with(read, 0, 0, 0),
-        Answer::Character(_) => with(read, 0, 0, 0),
+    match read.answer {
         Answer::Reply(n) => with(read, 5, 0, n),
-        Answer::EscapeState(_) => with(read, 0, 0, 0),
-        Answer::Event { y: _, x: _, a: _ } => with(read, 0, 0, 0),
-        Answer::Address {
-            target: _,
-            b3: _,
-            b2: _,
-            b1: _,
-            b0: _,
-        } => with(read, 0, 0, 0),
-        Answer::Block(_) => with(read, 0, 0, 0),
-        Answer::Loaded(_) => with(read, 0, 0, 0),
-        Answer::Ended { save: _ } => with(read, 0, 0, 0),
         Answer::Error { number, length } => with(read, 6, number, length),
         Answer::Restart => with(read, 7, 0, 0),
-        Answer::Refused(n) => with(read, 8, n, 0),
+        Answer::Refused(refusal) => with(read, 8, refusal.number(), 0),
+        _ => with(read, 0, 0, 0),
     }
 }
 
@@ -80,8 +65,8 @@ fn with(read: Recorded, kind: u32, number: u8, length: usize) -> FlatRecorded
         used: read.used,
         noted: read.noted,
         stored: read.stored,
-        length: length,
-        kind: kind,
-        number: number as u32,
+        length,
+        kind,
+        number: u32::from(number),
     }
 }

@@ -1,15 +1,17 @@
 -- Replies by number, for callers in C: what writing one and reading its fields promise.
-use Rattle.std.specs.Prelude.{ℕ, ◌≤◌, ◌<◌, ◌≡◌, Bool, true, false, cond, not, ◌&&◌, List, eqb, leb, ltb, length}
+use Rattle.std.specs.Prelude.{ℕ, ◌≤◌, ◌<◌, ◌≡◌, Option, Some, None, Result, Ok, Err, Bool, true, false, cond, not, ◌&&◌, List, eqb, leb, ltb, length}
 use Rattle.serial_rules.specs.Call.{string_limit}
 use Rattle.carrier.specs.Carriers.{carrier_of, carrier_at, last_carrier}
-use Rattle.fields.specs.declared.Written.{Written}
+use Rattle.refusal.specs.declared.Refusal.{Refusal}
+use Rattle.refusal.specs.declared.Refusal.TheVariants.{NotCarried, TooLong, BadField}
+use Rattle.refusal.specs.Refusals as refusals
+use Rattle.fields.specs.Promise.{Written}
 use Rattle.turns.specs.declared.Turn.{Turn}
-use Rattle.turns.specs.declared.Turn.TheVariants.{More, Done, Refused}
+use Rattle.turns.specs.declared.Turn.TheVariants.{More, Done}
 use Rattle.kind.specs.declared.CallKind.{CallKind}
 use Rattle.reply.specs.declared.Reply.{Reply}
 use Rattle.reply.specs.declared.Reply.TheVariants.{CarryA, Ack, Byte, CarryYX, Block, EscapedLine, ReadLine, ABlock, Plain, BlockCarryA}
-use Rattle.reply.specs.declared.Given.{Given}
-use Rattle.reply.specs.Promise.{ReadDone}
+use Rattle.reply.specs.Promise.{Given, ReadDone}
 use Rattle.reply_reader.specs.declared.Taken.{Taken}
 use Rattle.reply_reader.specs.Promise.{TakeDone}
 use Rattle.reply_writer.specs.Promise.{ReplyWritten}
@@ -32,6 +34,18 @@ reply_at n carry x y a =
     (cond (eqb n 7) (ABlock a)
     (cond (eqb n 8) Plain
     (BlockCarryA (not (eqb carry 0)) a)))))))))
+
+-- the reply of a number, none above the last
+abbrev pub reply_from : ℕ → Bool → ℕ → ℕ → ℕ → Option Reply
+reply_from n carry x y a = cond (leb n 9) (Some (reply_at n (flag_number 0 carry) x y a)) None
+
+-- What the reply writer answers on the carrier of that number, for the kind and the reply that numbers name.
+pub record NumberedDone (carrier : ℕ) (named : Option CallKind) (given : Option Reply) (b t out : List ℕ) (r : Written) (left : List ℕ) : Type 0 where
+  pub known : (kind : CallKind) (reply : Reply) → named ≡ Some kind → given ≡ Some reply → carrier ≤ last_carrier
+      → ReplyWritten (carrier_of (carrier_at carrier)) kind reply b t out r left
+  pub no_call : named ≡ None → (r ≡ Err NotCarried) × (left ≡ out)
+  pub no_carrier : (kind : CallKind) → named ≡ Some kind → last_carrier < carrier → (r ≡ Err (cond (ltb string_limit (length t)) TooLong BadField)) × (left ≡ out)
+  pub no_reply : (kind : CallKind) → named ≡ Some kind → given ≡ None → (r ≡ Err (cond (ltb string_limit (length t)) TooLong BadField)) × (left ≡ out)
 
 -- the numbers of the carrier and of the reply are in range
 unfoldable pub numbers_known : ℕ → ℕ → Bool
@@ -69,7 +83,7 @@ given_as g Plain = given_with g 8 false 0 0 0
 given_as g (BlockCarryA carry a) = given_with g 9 carry 0 0 a
 
 abbrev pub flat_given : Given → FlatGiven
-flat_given g = given_as g g.reply
+flat_given g = given_as g g.said
 
 -- the record for a call that does not exist
 abbrev pub no_reply : FlatGiven
@@ -90,10 +104,10 @@ pub record FlatReadDone (call : ℕ) (kind : CallKind) (s : List ℕ) (r : FlatG
 abbrev pub taken_with : ℕ → ℕ → ℕ → FlatTaken
 taken_with n kind answer = record { count = n; kind = kind; answer = answer }
 
-abbrev pub taken_as : ℕ → Turn → FlatTaken
-taken_as n More = taken_with n 0 0
-taken_as n Done = taken_with n 1 0
-taken_as n (Refused k) = taken_with n 2 k
+abbrev pub taken_as : ℕ → Result Turn Refusal → FlatTaken
+taken_as n (Ok More) = taken_with n 0 0
+taken_as n (Ok Done) = taken_with n 1 0
+taken_as n (Err r) = taken_with n 2 (refusals.number r)
 
 abbrev pub flat_taken : Taken → FlatTaken
 flat_taken r = taken_as r.count r.turn

@@ -14,6 +14,7 @@ use Rattle.request_reader.specs.declared.Reader.{Reader}
 use Rattle.request_reader.specs.declared.Answer.TheVariants.{More, Refused}
 use Rattle.request_reader.specs.declared.Stepped.{Stepped}
 use Rattle.request_reader.specs.View.{StepDone}
+use Rattle.refusal.specs.declared.Refusal.TheVariants.{Stopped}
 use Rattle.request_loop.specs.declared.Fed.{Fed}
 use Rattle.request_loop.specs.Feed.{FeedDone}
 use Rattle.flat.proofs.Flags.{flag_same}
@@ -54,11 +55,11 @@ module _ {f : FlatReader} {p : Reader} {lent left : List ℕ} (ok : tags_ok f �
 
 -- one with a number out of range
 module _ {f : FlatReader} {lent : List ℕ} (out : tags_ok f ≡ false) where
-  pub read_unknown : {x : ℕ} {o : FlatRead} → o ≡ flat_read f (Refused 7) → FlatDone f lent x o lent
+  pub read_unknown : {x : ℕ} {o : FlatRead} → o ≡ flat_read f (Refused Stopped) → FlatDone f lent x o lent
   read_unknown e = record { known = λ ok. absurd (true≢false (sym ok ∙ out)); unknown = λ _. (e, refl) }
 
   pub fed_none : {raw : List ℕ} {o : FlatRead} → length raw ≡ 0 → o ≡ flat_read f More → FlatFeedDone f lent raw (record { read = o; used = 0 }) lent
   fed_none {raw} none e = record { known = λ ok. absurd (true≢false (sym ok ∙ out)); unknown = λ _. (rw (eq-eqb (length raw) 0 none, e), refl) }
 
-  pub fed_unknown : {raw : List ℕ} {o : FlatRead} → (length raw ≡ 0 → ⊥) → o ≡ flat_read f (Refused 7) → FlatFeedDone f lent raw (record { read = o; used = 1 }) lent
+  pub fed_unknown : {raw : List ℕ} {o : FlatRead} → (length raw ≡ 0 → ⊥) → o ≡ flat_read f (Refused Stopped) → FlatFeedDone f lent raw (record { read = o; used = 1 }) lent
   fed_unknown {raw} some e = record { known = λ ok. absurd (true≢false (sym ok ∙ out)); unknown = λ _. (rw (ne_eqb (length raw) 0 some, e), refl) }

@@ -1,6 +1,7 @@
 -- A slice of raw bytes read through flat records: what the reader's own loop gives, flat.
 use Rattle.std.specs.Prelude.{ℕ, ◌≡◌, true, false, cond, List, eqb, length}
 use Rattle.request_reader.specs.declared.Answer.TheVariants.{More, Refused}
+use Rattle.refusal.specs.declared.Refusal.TheVariants.{Stopped}
 use Rattle.request_loop.specs.declared.Fed.{Fed}
 use Rattle.request_loop.specs.Feed.{FeedDone}
 use Rattle.flat_reader.specs.declared.FlatReader.{FlatReader}
@@ -14,7 +15,7 @@ flat_fed f o = record { read = flat_read (flat_of f.escape o.reader) o.answer; u
 -- of a record with a number out of range, given so many raw bytes: no bytes need more, else the first is refused as by a stopped reader; the
 -- record is the one given
 abbrev pub flat_unfed : FlatReader → ℕ → FlatFed
-flat_unfed f n = cond (eqb n 0) (record { read = flat_read f More; used = 0 }) (record { read = flat_read f (Refused 7); used = 1 })
+flat_unfed f n = cond (eqb n 0) (record { read = flat_read f More; used = 0 }) (record { read = flat_read f (Refused Stopped); used = 1 })
 
 -- the loop ran on the reader of the record, and its result is flat
 pub record IsFlatFed (f : FlatReader) (lent raw : List ℕ) (r : FlatFed) (left : List ℕ) : Type 0 where

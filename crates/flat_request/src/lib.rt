@@ -40,7 +40,7 @@ pub fn read(reader: FlatReader, raw: u8, body: &mut [u8; Reader::BODY]) -> FlatR
     if reader.phase == 1 {
         return read_inside(reader, raw, body);
     }
-    read_unflattened(reader, raw, body)
+    read_by_enums(reader, raw, body)
 }
 
 // A plain byte in the middle of a field is stored on the record as it is.
@@ -51,56 +51,43 @@ fn read_inside(reader: FlatReader, raw: u8, body: &mut [u8; Reader::BODY]) -> Fl
         body[reader.count as usize] = raw;
         return flat_reader::flat_read(next_place(reader), Answer::More);
     }
-    read_unflattened(reader, raw, body)
+    read_by_enums(reader, raw, body)
 }
 
 // Any byte, by way of the reader's enums and back. It has two callers, so that the compiler leaves it apart and theirs short.
-fn read_unflattened(reader: FlatReader, raw: u8, body: &mut [u8; Reader::BODY]) -> FlatRead
+fn read_by_enums(reader: FlatReader, raw: u8, body: &mut [u8; Reader::BODY]) -> FlatRead
     ensures { FlatDone reader body.old raw result body.new }
 {
-    if flat_reader::has_tags(reader) {
-        let stepped = flat_reader::unflattened(reader).step(raw, body);
-        let answer = stepped.answer;
-        let next = stepped.reader;
-        return flat_reader::flat_answer(reader.escape, next, answer);
+    match Reader::try_from(reader) {
+        Ok(at) => {
+            let step = at.step(raw, body);
+            flat_reader::flat_answer(reader.escape, step.reader, step.answer)
+        }
+        Err(refusal) => flat_reader::flat_read(reader, Answer::Refused(refusal)),
     }
-    flat_reader::flat_read(reader, Answer::Refused(7))
 }
 
 // Whether a raw byte is a plain one in the middle of a field: inside a request, within the limits, no escape seen.
-fn in_field(reader: FlatReader, raw: u8, body: &[u8]) -> bool
+fn in_field(reader: FlatReader, raw: u8, body: &[u8; Reader::BODY]) -> bool
     ensures { result ≡ true → InField reader body.now raw }
 {
-    if reader.phase != 1 {
-        return false;
-    }
-    if reader.escape != 0 {
-        return false;
-    }
-    if !has_style(reader.carrier, reader.style) {
-        return false;
-    }
-    if !turns::is_plain(raw) {
-        return false;
-    }
     let count = reader.count as usize;
-    if body.len() <= count {
-        return false;
-    }
-    0 < middles::ahead(reader.code, &body[..count])
+    reader.phase == 1
+        && reader.escape == 0
+        && has_style(reader.carrier, reader.style)
+        && turns::is_plain(raw)
+        && count < Reader::BODY
+        && 0 < middles::ahead(reader.code, &body[..count])
 }
 
 // Whether the carrier's number is in range and the style one of its own.
 fn has_style(carrier: u8, style: u8) -> bool
     ensures { result ≡ styled carrier style }
 {
-    if carrier == 0 {
-        return Carrier::Serial.has_style(style);
+    match Carrier::try_from(carrier) {
+        Ok(carrier) => carrier.has_style(style),
+        Err(_) => false,
     }
-    if carrier == 1 {
-        return Carrier::Parallel.has_style(style);
-    }
-    false
 }
 
 // The record after one more byte of the body.
@@ -110,11 +97,7 @@ fn next_place(reader: FlatReader) -> FlatReader
 {
     FlatReader {
         count: reader.count + 1,
-        carrier: reader.carrier,
-        phase: reader.phase,
-        escape: reader.escape,
-        style: reader.style,
-        code: reader.code,
+        ..reader
     }
 }
 
@@ -122,23 +105,21 @@ fn next_place(reader: FlatReader) -> FlatReader
 pub fn feed(reader: FlatReader, raw: &[u8], body: &mut [u8; Reader::BODY]) -> FlatFed
     ensures { FlatFeedDone reader body.old raw.now result body.new }
 {
-    if flat_reader::has_tags(reader) {
-        let fed = request_loop::feed(flat_reader::unflattened(reader), raw, body);
-        let answer = fed.answer;
-        let next = fed.reader;
-        return FlatFed {
-            read: flat_reader::flat_answer(reader.escape, next, answer),
-            used: fed.used,
-        };
-    }
-    if raw.len() == 0 {
-        return FlatFed {
+    match Reader::try_from(reader) {
+        Ok(at) => {
+            let fed = request_loop::feed(at, raw, body);
+            FlatFed {
+                read: flat_reader::flat_answer(reader.escape, fed.reader, fed.answer),
+                used: fed.used,
+            }
+        }
+        Err(_) if raw.is_empty() => FlatFed {
             read: flat_reader::flat_read(reader, Answer::More),
             used: 0,
-        };
-    }
-    FlatFed {
-        read: flat_reader::flat_read(reader, Answer::Refused(7)),
-        used: 1,
+        },
+        Err(refusal) => FlatFed {
+            read: flat_reader::flat_read(reader, Answer::Refused(refusal)),
+            used: 1,
+        },
     }
 }

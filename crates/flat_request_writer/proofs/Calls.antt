@@ -1,40 +1,25 @@
--- What `write_request` promises, case by case: where one holds, the conditions of the others do not.
-use Prim.Native.Nat.{ℕ, ◌≤◌, ◌<◌}
-use native.Mathlib.Omega.{arith}
-use mathlib.Core.Path.{◌≡◌, refl}
-use mathlib.Core.Bool.{cond}
+-- What the request writer promises by numbers, in its flat form.
+use Prim.Native.Nat.{ℕ}
+use mathlib.Core.Path.{◌≡◌, ap, ◌∙◌}
 use mathlib.Core.List.{List}
+use borrow.Author.Tests.{le-leb, lt-leb}
 use lib.Dec.{ltb}
 use lib.ListN.{length}
 use Rattle.serial_rules.specs.Call.{string_limit}
-use Rattle.carrier.specs.declared.Carrier.{Carrier}
-use Rattle.carrier.specs.Carriers.{carrier_of, carrier_at, last_carrier}
-use Rattle.calls.specs.declared.Call.{Call}
-use Rattle.fields.specs.declared.Written.{Written}
-use Rattle.request_writer.specs.Promise.{RequestDone}
+use Rattle.fields.specs.Promise.{Written}
 use Rattle.flat.specs.declared.FlatWritten.{FlatWritten}
-use Rattle.flat.specs.Flat.{flat_written, unwritten_with}
+use Rattle.flat.specs.Flat.{flat_written}
+use Rattle.flat.proofs.Flags.{refused}
 use Rattle.flat_kind.specs.Kinds.{last_call}
-use Rattle.flat_request_writer.specs.Calls.{FlatRequestDone}
+use Rattle.flat_request_writer.specs.Calls.{call_at, call_from, NumberedDone, FlatRequestDone}
 
-module _ {carrier style n : ℕ} {call : Call} {b t out : List ℕ} {o : FlatWritten} where
-  pub none : last_call < n → o ≡ unwritten_with 4 → FlatRequestDone carrier style n call b t out o out
-  none above e = record { known = λ k on. absurd (omega (arith, k)); no_call = λ k. (e, refl); no_carrier = λ k off. absurd (omega (arith, k)) }
-
-  pub done : {on : Carrier} {given : Call} {w : Written} {left : List ℕ} → n ≤ last_call → carrier ≤ last_carrier → on ≡ carrier_at carrier → given ≡ call
-      → RequestDone (carrier_of on) style given b t out w left → o ≡ flat_written w → FlatRequestDone carrier style n call b t out o left
-  done {w = w} k on at is d e =
+-- the flat form of what was written by numbers
+module _ {carrier style : ℕ} (n x y a o : ℕ) {b t out left : List ℕ} {r : Written} {f : FlatWritten} where
+  pub flat : NumberedDone carrier style (call_from n x y a o) b t out r left → f ≡ flat_written r → FlatRequestDone carrier style n (call_at n x y a o) b t out f left
+  flat d e =
+      let call = call_at n x y a o in
       record {
-        known = λ _ _. record { written = w; done = rw (at, is) at d; is = e };
-        no_call = λ above. absurd (omega (arith, above));
-        no_carrier = λ _ off. absurd (omega (arith, off));
-      }
-
-  pub unknown : {m : ℕ} → n ≤ last_call → last_carrier < carrier → m ≡ cond (ltb string_limit (length t)) 6 9 → o ≡ unwritten_with m
-      → FlatRequestDone carrier style n call b t out o out
-  unknown k off m e =
-      record {
-        known = λ _ on. absurd (omega (arith, on));
-        no_call = λ above. absurd (omega (arith, above));
-        no_carrier = λ _ _. (rw m at e, refl);
+        known = λ k on. record { written = r; done = d.known call (rw (le-leb n last_call k)) on; is = e };
+        no_call = λ above. let w = d.no_call (rw (lt-leb n last_call above)) in (rw w.0 at e, w.1);
+        no_carrier = λ k above. let w = d.no_carrier call (rw (le-leb n last_call k)) above in (e ∙ ap flat_written w.0 ∙ refused (ltb string_limit (length t)), w.1);
       }

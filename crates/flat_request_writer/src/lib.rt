@@ -2,17 +2,18 @@
 #![tactic(auto)]
 
 ghost use Rattle.std.specs.Prelude.{◌≡◌};
-ghost use Rattle.flat_request_writer.specs.Calls.{call_at, FlatRequestDone};
+ghost use Rattle.flat_request_writer.specs.Calls.{call_at, call_from, NumberedDone, FlatRequestDone};
 
 use calls::Call;
 use carrier::Carrier;
 use flat::FlatWritten;
-use flat_kind::FlatKind;
+use refusal::Refusal;
 use strings::Text;
 
 // Writes a request: see `request_writer::write_request`. The calls are numbered in the order of `calls::Call`, from 0, the carriers as
 // `carrier::Carrier` numbers them. A call that is none is answered first of all; another carrier is a field that breaks its rule. A number that
 // the call does not have is not read.
+#[tactic(auto, using(crate::proofs::Calls::flat))]
 pub fn write_request(
     carrier: u8,
     style: u8,
@@ -27,42 +28,49 @@ pub fn write_request(
 ) -> FlatWritten
     ensures { FlatRequestDone carrier style call (call_at call x y a out_length) block.now text.now out.old result out.new }
 {
-    if FlatKind::LAST < call {
-        return flat::unwritten(4);
-    }
-    if carrier <= Carrier::LAST {
-        let given = call_at(call, x, y, a, out_length);
-        let on = Carrier::at(carrier);
-        return flat::flat_written(request_writer::write_request(
-            on, style, given, block, text, out,
-        ));
-    }
+    let given = call_from(call, x, y, a, out_length);
+    FlatWritten::from(write_numbered(carrier, style, given, block, text, out))
+}
+
+// The same with the call, or none where no call has the number. The checks come in the order of their answers.
+#[tactic(auto, using(request_writer::proofs::Answers::too_long))]
+fn write_numbered(
+    carrier: u8,
+    style: u8,
+    call: Option<Call>,
+    block: &[u8],
+    text: &[u8],
+    out: &mut [u8],
+) -> Result<usize, Refusal>
+    ensures { NumberedDone carrier style call block.now text.now out.old result out.new }
+{
+    let given = call.ok_or(Refusal::NotCarried)?;
     if Text::LIMIT < text.len() {
-        return flat::unwritten(6);
+        return Err(Refusal::TooLong);
     }
-    flat::unwritten(9)
+    let on = Carrier::try_from(carrier)?;
+    request_writer::write_request(on, style, given, block, text, out)
 }
 
 // The call of a number, with the numbers that it has.
-fn call_at(number: u8, x: u8, y: u8, a: u8, out_length: u8) -> Call
-    ensures { result ≡ call_at number x y a out_length }
+fn call_from(number: u8, x: u8, y: u8, a: u8, out_length: u8) -> Option<Call>
+    ensures { result ≡ call_from number x y a out_length }
 {
-    match number {
+    let call = match number {
         0 => Call::Osrdch,
         1 => Call::Oscli,
-        2 => Call::OsbyteLow { x: x, a: a },
-        3 => Call::OsbyteHigh { x: x, y: y, a: a },
-        4 => Call::Osword {
-            a: a,
-            out_length: out_length,
-        },
+        2 => Call::OsbyteLow { x, a },
+        3 => Call::OsbyteHigh { x, y, a },
+        4 => Call::Osword { a, out_length },
         5 => Call::Osword0,
-        6 => Call::Osargs { y: y, a: a },
-        7 => Call::Osbget { y: y },
-        8 => Call::Osbput { y: y, a: a },
-        9 => Call::OsfindClose { y: y },
-        10 => Call::OsfindOpen { a: a },
-        11 => Call::Osfile { a: a },
-        _ => Call::Osgbpb { a: a },
-    }
+        6 => Call::Osargs { y, a },
+        7 => Call::Osbget { y },
+        8 => Call::Osbput { y, a },
+        9 => Call::OsfindClose { y },
+        10 => Call::OsfindOpen { a },
+        11 => Call::Osfile { a },
+        12 => Call::Osgbpb { a },
+        _ => return None,
+    };
+    Some(call)
 }

@@ -49,7 +49,7 @@ pub fn tube_kind_of(code: u8, body: &[u8]) -> FlatKind
 pub fn tube_file_name(body: &[u8]) -> FlatName
     ensures { result ≡ flat_name (name_of body.now) }
 {
-    flat::flat_name(strings::file_name(body))
+    FlatName::from(strings::file_name(body))
 }
 
 // Writes a reply: see `flat_reply::write_reply`.

@@ -1,10 +1,10 @@
 -- The program's kinds, as the rules speak of them.
-use Rattle.std.specs.Prelude.{ℕ}
+use Rattle.std.specs.Prelude.{ℕ, Option, Some, None}
 use Rattle.serial_rules.specs.Reply as rules
-use Rattle.kind.specs.declared.Found.{Found}
-use Rattle.kind.specs.declared.Found.TheVariants.{Known, NoCall}
 use Rattle.kind.specs.declared.CallKind.{CallKind}
 use Rattle.kind.specs.declared.CallKind.TheVariants.{Osrdch, Oscli, OsbyteLow, OsbyteHigh, Osword, Osword0, Osargs, Osbget, Osbput, OsfindClose, OsfindOpen, Osfile, Osgbpb}
+use Rattle.kind.specs.declared.Form.{Form}
+use Rattle.kind.specs.declared.Form.TheVariants.{CarryA, Ack, Byte, CarryYX, Block, Line, ABlock, Plain, BlockCarryA}
 
 abbrev pub kind_for : CallKind → rules.Kind
 kind_for Osrdch = rules.osrdch
@@ -21,9 +21,21 @@ kind_for OsfindOpen = rules.osfind_open
 kind_for Osfile = rules.osfile
 kind_for Osgbpb = rules.osgbpb
 
-abbrev pub found_for : Found → rules.Found
-found_for (Known kind) = rules.known (kind_for kind)
-found_for NoCall = rules.no_call
+abbrev pub found_for : Option CallKind → rules.Found
+found_for (Some kind) = rules.known (kind_for kind)
+found_for None = rules.no_call
+
+-- the rules' number of a form
+abbrev pub form_number : Form → ℕ
+form_number CarryA = 0
+form_number Ack = 1
+form_number Byte = 2
+form_number CarryYX = 3
+form_number Block = 4
+form_number Line = 5
+form_number ABlock = 6
+form_number Plain = 7
+form_number BlockCarryA = 8
 
 -- the bytes lent for a reply
 abbrev pub reply_lent : ℕ

@@ -4,12 +4,12 @@
 ghost use Rattle.std.specs.Prelude.{◌≡◌};
 ghost use Rattle.serial_rules.specs.Reply.{shape_of, form_of, block_in, kind_from, kind_in};
 ghost use Rattle.shapes.specs.Shapes.{shape_for};
-ghost use Rattle.kind.specs.Kinds.{kind_for, found_for};
+ghost use Rattle.kind.specs.Kinds.{kind_for, found_for, form_number};
 
 use shapes::Shape;
 
 // A call as far as its reply goes; OSWORD carries the number of bytes that come back.
-#[derive(Clone, Copy)]
+#[derive(Clone, Copy, PartialEq, Eq, Debug)]
 pub enum CallKind {
     Osrdch,
     Oscli,
@@ -26,35 +26,44 @@ pub enum CallKind {
     Osgbpb,
 }
 
-// The kind of a request, or that its code is that of no call.
-#[derive(Clone, Copy)]
-pub enum Found {
-    Known(CallKind),
-    NoCall,
+// The forms of a reply, by what it holds: carry and A; the one acknowledging byte of OSCLI; one byte; carry, Y and X; a block; a line; A and a
+// block; a plain zero byte; a block, carry and A.
+#[derive(Clone, Copy, PartialEq, Eq, Debug)]
+pub enum Form {
+    CarryA,
+    Ack,
+    Byte,
+    CarryYX,
+    Block,
+    Line,
+    ABlock,
+    Plain,
+    BlockCarryA,
 }
 
 impl CallKind {
     // The bytes lent for a reply: the longest has so many.
     pub const REPLY: usize = 257;
 
-    // The kind of a finished request, by its code and body.
-    pub fn of_request(code: u8, body: &[u8]) -> Found
+    // The kind of a finished request, by its code and body, if its code is that of a call.
+    #[tactic(auto, unfolding(serial_rules::specs::Reply::kind_in, serial_rules::specs::Fields::fields_of))]
+    pub fn of_request(code: u8, body: &[u8]) -> Option<CallKind>
         ensures { found_for result ≡ kind_in code body.now }
     {
         match code {
-            0x00 => Found::Known(CallKind::Osrdch),
-            0x02 => Found::Known(CallKind::Oscli),
-            0x04 => Found::Known(CallKind::OsbyteLow),
-            0x06 => Found::Known(CallKind::OsbyteHigh),
-            0x08 => Found::Known(CallKind::Osword(places::last_byte(body))),
-            0x0A => Found::Known(CallKind::Osword0),
-            0x0C => Found::Known(CallKind::Osargs),
-            0x0E => Found::Known(CallKind::Osbget),
-            0x10 => Found::Known(CallKind::Osbput),
-            0x12 => Found::Known(find_kind(body)),
-            0x14 => Found::Known(CallKind::Osfile),
-            0x16 => Found::Known(CallKind::Osgbpb),
-            _ => Found::NoCall,
+            0x00 => Some(CallKind::Osrdch),
+            0x02 => Some(CallKind::Oscli),
+            0x04 => Some(CallKind::OsbyteLow),
+            0x06 => Some(CallKind::OsbyteHigh),
+            0x08 => Some(CallKind::Osword(places::last_byte(body))),
+            0x0A => Some(CallKind::Osword0),
+            0x0C => Some(CallKind::Osargs),
+            0x0E => Some(CallKind::Osbget),
+            0x10 => Some(CallKind::Osbput),
+            0x12 => Some(find_kind(body)),
+            0x14 => Some(CallKind::Osfile),
+            0x16 => Some(CallKind::Osgbpb),
+            _ => None,
         }
     }
 
@@ -63,40 +72,35 @@ impl CallKind {
         ensures { shape_for result ≡ shape_of (kind_for self) }
     {
         match self {
-            CallKind::Osrdch => Shape::Fixed(2),
-            CallKind::Oscli => Shape::Fixed(1),
-            CallKind::OsbyteLow => Shape::Fixed(1),
+            CallKind::Oscli
+            | CallKind::OsbyteLow
+            | CallKind::Osbput
+            | CallKind::OsfindClose
+            | CallKind::OsfindOpen => Shape::Fixed(1),
+            CallKind::Osrdch | CallKind::Osbget => Shape::Fixed(2),
             CallKind::OsbyteHigh => Shape::Fixed(3),
             CallKind::Osword(n) => Shape::Fixed(n),
             CallKind::Osword0 => Shape::Line,
             CallKind::Osargs => Shape::Fixed(5),
-            CallKind::Osbget => Shape::Fixed(2),
-            CallKind::Osbput => Shape::Fixed(1),
-            CallKind::OsfindClose => Shape::Fixed(1),
-            CallKind::OsfindOpen => Shape::Fixed(1),
             CallKind::Osfile => Shape::Fixed(17),
             CallKind::Osgbpb => Shape::Fixed(15),
         }
     }
 
-    // The form of the reply, by number.
-    pub fn form(self) -> u8
-        ensures { result ≡ form_of (kind_for self) }
+    // The form of the reply.
+    pub fn form(self) -> Form
+        ensures { form_number result ≡ form_of (kind_for self) }
     {
         match self {
-            CallKind::Osrdch => 0,
-            CallKind::Oscli => 1,
-            CallKind::OsbyteLow => 2,
-            CallKind::OsbyteHigh => 3,
-            CallKind::Osword(_) => 4,
-            CallKind::Osword0 => 5,
-            CallKind::Osargs => 6,
-            CallKind::Osbget => 0,
-            CallKind::Osbput => 7,
-            CallKind::OsfindClose => 7,
-            CallKind::OsfindOpen => 2,
-            CallKind::Osfile => 6,
-            CallKind::Osgbpb => 8,
+            CallKind::Osrdch | CallKind::Osbget => Form::CarryA,
+            CallKind::Oscli => Form::Ack,
+            CallKind::OsbyteLow | CallKind::OsfindOpen => Form::Byte,
+            CallKind::OsbyteHigh => Form::CarryYX,
+            CallKind::Osword(_) => Form::Block,
+            CallKind::Osword0 => Form::Line,
+            CallKind::Osargs | CallKind::Osfile => Form::ABlock,
+            CallKind::Osbput | CallKind::OsfindClose => Form::Plain,
+            CallKind::Osgbpb => Form::BlockCarryA,
         }
     }
 
@@ -105,29 +109,23 @@ impl CallKind {
         ensures { result ≡ block_in (kind_for self) }
     {
         match self {
-            CallKind::Osrdch => 0,
-            CallKind::Oscli => 0,
-            CallKind::OsbyteLow => 0,
-            CallKind::OsbyteHigh => 0,
-            CallKind::Osword(n) => n as usize,
-            CallKind::Osword0 => 0,
+            CallKind::Osword(n) => usize::from(n),
             CallKind::Osargs => 4,
-            CallKind::Osbget => 0,
-            CallKind::Osbput => 0,
-            CallKind::OsfindClose => 0,
-            CallKind::OsfindOpen => 0,
             CallKind::Osfile => 16,
             CallKind::Osgbpb => 13,
+            _ => 0,
         }
     }
 }
 
 // Closing or opening, by the first byte.
+#[tactic(auto, unfolding(serial_rules::specs::Fields::fields_of))]
 fn find_kind(body: &[u8]) -> CallKind
     ensures { kind_for result ≡ kind_from 0x12 body.now }
 {
     if places::byte_at(body, 0) == 0 {
-        return CallKind::OsfindClose;
+        CallKind::OsfindClose
+    } else {
+        CallKind::OsfindOpen
     }
-    CallKind::OsfindOpen
 }

@@ -1,4 +1,5 @@
 -- What a usable record keeps to, part by part.
+use Rattle.std.specs.Prelude.{Option, Some, None}
 use Prim.Native.Nat.{ℕ, ◌≤◌, ◌<◌}
 use mathlib.Core.Path.{◌≡◌}
 use mathlib.Core.Bool.{Bool, true, false, not, ◌&&◌}
@@ -8,8 +9,7 @@ use borrow.Author.Tests.{ltb-true, not-true}
 use Rattle.serial_rules.proofs.Shapes.{choice}
 use Rattle.serial_rules.proofs.Trip.{and_both}
 use Rattle.actions.specs.Actions.{opens_transfer}
-use Rattle.link.specs.declared.Doing.{Doing}
-use Rattle.link.specs.declared.Doing.TheVariants.{Quiet, Open}
+use Rattle.actions.specs.declared.Action.{Action}
 use Rattle.link.specs.declared.Link.{Link}
 use Rattle.link.specs.View.{reply_room, own_room, nest_room, usable_of}
 
@@ -41,9 +41,9 @@ module _ (l : Link) (e : usable_of l ≡ true) where
   usable_nested = ltb-true l.nested (nest_room l.doing) (and_both o n (and_both r (o && n) within).1).1
 
 -- no more than four transfers are open, whatever action is
-pub nest_most : (d : Doing) → nest_room d ≤ 31
-nest_most Quiet = omega arith
-nest_most (Open a) = choice (λ (n : ℕ). n ≤ 31) (opens_transfer a) (λ _. omega arith) (λ _. omega arith)
+pub nest_most : (d : Option Action) → nest_room d ≤ 31
+nest_most None = omega arith
+nest_most (Some a) = choice (λ (n : ℕ). n ≤ 31) (opens_transfer a) (λ _. omega arith) (λ _. omega arith)
 
 pub nested_low : (l : Link) → usable_of l ≡ true → l.nested ≤ 30
 nested_low l u = omega (arith, usable_nested l u, nest_most l.doing)

@@ -1,44 +1,41 @@
 -- What a begun call gives, and the records that a raw byte can leave.
-use Rattle.std.specs.Prelude.{ℕ, true, false, cond}
-use Rattle.serial_rules.specs.Link as rules
 use Rattle.link.specs.declared.Wait.{Wait}
 use Rattle.link.specs.declared.Wait.TheVariants.{Idle, Waiting}
-use Rattle.link.specs.declared.Doing.{Doing}
-use Rattle.link.specs.declared.Doing.TheVariants.{Quiet}
+use Rattle.std.specs.Prelude.{ℕ, true, false, cond, Option, None, Result, Ok, Err}
+use Rattle.serial_rules.specs.Link as rules
+use Rattle.refusal.specs.declared.Refusal.{Refusal}
+use Rattle.refusal.specs.declared.Refusal.TheVariants as refusal
+use Rattle.refusal.specs.declared.Refusal.TheVariants.{Stopped}
+use Rattle.actions.specs.declared.Action.{Action}
 use Rattle.link.specs.declared.Link.{Link}
 use Rattle.answers.specs.declared.Answer.{Answer}
 use Rattle.answers.specs.declared.Answer.TheVariants as variant
 use Rattle.link.specs.declared.Stepped.{Stepped}
-use Rattle.link.specs.declared.Begun.{Begun}
-use Rattle.link.specs.declared.Started.{Started}
 use Rattle.link.specs.View.{usable_of, stopped_from}
 
-abbrev pub begun_from : Link → Begun → Started
-begun_from l a = record { answer = a; link = l }
+-- what refuses any call: a stopped link, and another call that waits
+abbrev pub none_waits : Wait → Result (Unit {0}) Refusal
+none_waits Idle = Ok tt
+none_waits (Waiting kind) = Err refusal.Waiting
 
--- the number that refuses any call, of a stopped link and of one where a call waits; 0 where nothing does
-abbrev pub busy_with : Wait → ℕ
-busy_with Idle = 0
-busy_with (Waiting kind) = 12
-
-abbrev pub barred_by : Link → ℕ
-barred_by l = cond (usable_of l) (busy_with l.wait) 7
+abbrev pub free_of : Link → Result (Unit {0}) Refusal
+free_of l = cond (usable_of l) (none_waits l.wait) (Err Stopped)
 
 -- what a step leaves: the record stopped; an escape seen; the reply at its place; another transfer innermost; or no action and no transfer open
-abbrev pub refused_from : Link → ℕ → Stepped
-refused_from l n = record { answer = variant.Refused n; link = stopped_from l }
+abbrev pub refused_from : Link → Refusal → Stepped
+refused_from l r = record { answer = variant.Refused r; link = stopped_from l }
 
 abbrev pub paused_from : Link → Stepped
-paused_from l = record { answer = variant.More; link = record { wait = l.wait; got = l.got; escape = true; doing = l.doing; held = l.held; nested = l.nested; stopped = false } }
+paused_from l = record { answer = variant.More; link = record l { escape = true; stopped = false } }
 
-abbrev pub going_from : Link → Answer → Doing → ℕ → Stepped
-going_from l a d n = record { answer = a; link = record { wait = l.wait; got = l.got; escape = false; doing = d; held = n; nested = l.nested; stopped = false } }
+abbrev pub going_from : Link → Answer → Option Action → ℕ → Stepped
+going_from l a d n = record { answer = a; link = record l { escape = false; doing = d; held = n; stopped = false } }
 
 abbrev pub nesting_from : Link → Answer → ℕ → Stepped
-nesting_from l a n = record { answer = a; link = record { wait = l.wait; got = l.got; escape = false; doing = Quiet; held = 0; nested = n; stopped = false } }
+nesting_from l a n = record { answer = a; link = record l { escape = false; doing = None; held = 0; nested = n; stopped = false } }
 
 abbrev pub resting_with : Answer → Wait → ℕ → Stepped
-resting_with a w n = record { answer = a; link = record { wait = w; got = n; escape = false; doing = Quiet; held = 0; nested = 0; stopped = false } }
+resting_with a w n = record { answer = a; link = record { wait = w; got = n; escape = false; doing = None; held = 0; nested = 0; stopped = false } }
 
 -- the step of the rules, of what the escape layer and the actions make of a raw byte
 abbrev pub seen_step : rules.Frame → rules.Seen → rules.Step

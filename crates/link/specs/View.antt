@@ -1,5 +1,7 @@
 -- How a link record with its lent bytes stands for the rules' link, and what a begun call and a step promise.
-use Rattle.std.specs.Prelude.{ℕ, ◌≡◌, Bool, true, false, cond, not, ◌&&◌, List, ltb, length, take}
+use Rattle.link.specs.declared.Wait.{Wait}
+use Rattle.link.specs.declared.Wait.TheVariants.{Idle, Waiting}
+use Rattle.std.specs.Prelude.{ℕ, ◌≡◌, Bool, true, false, cond, not, ◌&&◌, List, ltb, length, take, Option, Some, None, Result, Ok, Err}
 use Rattle.serial_rules.specs.Escape as escape
 use Rattle.serial_rules.specs.Lent.{turn_lent}
 use Rattle.serial_rules.specs.Reply.{shape_of, shape_turn, longest}
@@ -8,39 +10,38 @@ use Rattle.serial_rules.specs.Nest.{nest_of}
 use Rattle.actions.specs.Actions.{action_for, opens_transfer}
 use Rattle.kind.specs.Kinds.{kind_for}
 use Rattle.kind.specs.declared.CallKind.{CallKind}
-use Rattle.link.specs.declared.Wait.{Wait}
-use Rattle.link.specs.declared.Wait.TheVariants.{Idle, Waiting}
-use Rattle.link.specs.declared.Doing.{Doing}
-use Rattle.link.specs.declared.Doing.TheVariants.{Quiet, Open}
+use Rattle.actions.specs.declared.Action.{Action}
+use Rattle.refusal.specs.Refusals.{number}
+use Rattle.refusal.specs.declared.Refusal.{Refusal}
 use Rattle.link.specs.declared.Link.{Link}
 use Rattle.answers.specs.declared.Answer.TheVariants as variant
 use Rattle.answers.specs.Reports.{report_of, answer_for}
 use Rattle.link.specs.declared.Stepped.{Stepped}
 use Rattle.link.specs.declared.Begun.{Begun}
-use Rattle.link.specs.declared.Begun.TheVariants.{Waits, Complete, Denied}
+use Rattle.link.specs.declared.Begun.TheVariants.{Waits, Complete}
 use Rattle.link.specs.declared.Started.{Started}
 
 abbrev pub wait_for : Wait → rules.Wait
 wait_for Idle = rules.idle
 wait_for (Waiting kind) = rules.waiting (kind_for kind)
 
-abbrev pub doing_for : Doing → List ℕ → rules.Doing
-doing_for Quiet h = rules.none
-doing_for (Open a) h = rules.own (action_for a) h
+abbrev pub doing_for : Option Action → List ℕ → rules.Doing
+doing_for None h = rules.none
+doing_for (Some a) h = rules.own (action_for a) h
 
 -- how many reply bytes and own bytes a record may count to: an idle link has none of a reply, and no action has no byte of its own
 abbrev pub reply_room : Wait → ℕ
 reply_room Idle = 1
 reply_room (Waiting kind) = longest (shape_of (kind_for kind))
 
-abbrev pub own_room : Doing → ℕ
-own_room Quiet = 1
-own_room (Open a) = rules.own_most (action_for a)
+abbrev pub own_room : Option Action → ℕ
+own_room None = 1
+own_room (Some a) = rules.own_most (action_for a)
 
 -- the number of the open transfers: below 31 there are at most four of them, and below 15 at most three, so that an action may open one more
-abbrev pub nest_room : Doing → ℕ
-nest_room Quiet = 31
-nest_room (Open a) = cond (opens_transfer a) 15 31
+abbrev pub nest_room : Option Action → ℕ
+nest_room None = 31
+nest_room (Some a) = cond (opens_transfer a) 15 31
 
 -- "one whose record exceeds its limits counts as stopped": a count is below the most that its kind or its action needs, and no more transfers are
 -- open than there can be
@@ -90,27 +91,27 @@ own_after (rules.live l f) raw own = piece_lent own l.doing (escape.piece_of l.e
 
 -- the record of a fresh link
 abbrev pub fresh : Link
-fresh = record { wait = Idle; got = 0; escape = false; doing = Quiet; held = 0; nested = 0; stopped = false }
+fresh = record { wait = Idle; got = 0; escape = false; doing = None; held = 0; nested = 0; stopped = false }
 
 -- the record with its link stopped, and with a call that waits
 abbrev pub stopped_from : Link → Link
-stopped_from l = record { wait = l.wait; got = l.got; escape = l.escape; doing = l.doing; held = l.held; nested = l.nested; stopped = true }
+stopped_from l = record l { stopped = true }
 
 abbrev pub waiting_from : Link → CallKind → Link
-waiting_from l kind = record { wait = Waiting kind; got = 0; escape = l.escape; doing = l.doing; held = l.held; nested = l.nested; stopped = l.stopped }
+waiting_from l kind = record l { wait = Waiting kind; got = 0 }
 
-abbrev pub begun_of : Begun → rules.Begun
-begun_of Waits = rules.begun
-begun_of Complete = rules.complete
-begun_of (Denied n) = rules.denied n
+abbrev pub begun_of : Result Begun Refusal → rules.Begun
+begun_of (Ok Waits) = rules.begun
+begun_of (Ok Complete) = rules.complete
+begun_of (Err r) = rules.denied (number r)
 
 -- What `begin` promises of the link, the kind of the call and the result, whatever bytes are lent.
 pub record BeginDone (link : Link) (kind : CallKind) (r : Started) : Type 0 where
   pub answer : (reply own : List ℕ) → begun_of r.answer ≡ (rules.begin (view_of link reply own) (kind_for kind)).answer
   pub next : (reply own : List ℕ) → view_of r.link reply own ≡ (rules.begin (view_of link reply own) (kind_for kind)).next
   -- a call that waits changes what waits and nothing else; else the link is the one given
-  pub waits : r.answer ≡ Waits → r.link ≡ waiting_from link kind
-  pub kept : (r.answer ≡ Waits → ⊥) → r.link ≡ link
+  pub waits : r.answer ≡ Ok Waits → r.link ≡ waiting_from link kind
+  pub kept : (r.answer ≡ Ok Waits → ⊥) → r.link ≡ link
 
 -- What `begin_none` promises of the link and the result, whatever bytes are lent: a call that is not carried leaves the link given.
 pub record BeginNoneDone (link : Link) (r : Started) : Type 0 where
@@ -126,4 +127,4 @@ pub record StepDone (link : Link) (reply own : List ℕ) (raw : ℕ) (r : Steppe
   pub own_bytes : own-left ≡ own_after (view_of link reply own) raw own
   -- a stopped link is unchanged; any other refusal leaves the record given, stopped
   pub kept : view_of link reply own ≡ rules.stopped → r.link ≡ link
-  pub stops : (n : ℕ) → (view_of link reply own ≡ rules.stopped → ⊥) → r.answer ≡ variant.Refused n → r.link ≡ stopped_from link
+  pub stops : (n : Refusal) → (view_of link reply own ≡ rules.stopped → ⊥) → r.answer ≡ variant.Refused n → r.link ≡ stopped_from link

@@ -5,57 +5,50 @@
 ghost use Rattle.std.specs.Prelude.{◌<◌, ◌≤◌, ◌≡◌, true};
 ghost use Rattle.kind.specs.Kinds.{reply_lent};
 ghost use Rattle.link.specs.View.{reply_room, own_room, nest_room, usable_of, own_lent, fresh, BeginDone, BeginNoneDone};
-ghost use Rattle.link.specs.Parts.{begun_from, barred_by, refused_from, paused_from, going_from, nesting_from, resting_with};
+ghost use Rattle.link.specs.Parts.{free_of, refused_from, paused_from, going_from, nesting_from, resting_with};
 
 use actions::Action;
 use answers::Answer;
 use kind::CallKind;
+use refusal::Refusal;
 
 // What waits: nothing, or one call of a kind.
-#[derive(Clone, Copy)]
+#[derive(Clone, Copy, PartialEq, Eq, Debug)]
 pub enum Wait {
     Idle,
     Waiting(CallKind),
 }
 
-// What the actions do: nothing, or one of them is open.
-#[derive(Clone, Copy)]
-pub enum Doing {
-    Quiet,
-    Open(Action),
-}
-
-// A link. The reply so far is the first `got` bytes of the lent reply, the open action's own bytes the first `held` of the other lent bytes.
-// `nested` is the open transfers: 0 where none is open, 2n + 1 for a load inside those of n, 2n + 2 for a save. A record over its limits counts
-// as stopped.
-#[derive(Clone, Copy)]
+// A link: what waits, and the open action, if there is one. The reply so far is the first `got` bytes of the lent
+// reply, the open action's own bytes the first `held` of the other lent bytes. `nested` is the open transfers: 0 where none is open, 2n + 1 for a
+// load inside those of n, 2n + 2 for a save. A record over its limits counts as stopped.
+#[derive(Clone, Copy, PartialEq, Eq, Debug)]
 pub struct Link {
     pub wait: Wait,
     pub got: u16,
     pub escape: bool,
-    pub doing: Doing,
+    pub doing: Option<Action>,
     pub held: u16,
     pub nested: u8,
     pub stopped: bool,
 }
 
-#[derive(Clone, Copy)]
+#[derive(Clone, Copy, PartialEq, Eq, Debug)]
 pub struct Stepped {
     pub answer: Answer,
     pub link: Link,
 }
 
-// What a begun call gives: it waits; it is complete, since it has no reply byte; or a refusal by document 01's number.
-#[derive(Clone, Copy)]
+// What a begun call does: it waits, or it is complete, since it has no reply byte.
+#[derive(Clone, Copy, PartialEq, Eq, Debug)]
 pub enum Begun {
     Waits,
     Complete,
-    Denied(u8),
 }
 
-#[derive(Clone, Copy)]
+#[derive(Clone, Copy, PartialEq, Eq, Debug)]
 pub struct Started {
-    pub answer: Begun,
+    pub answer: Result<Begun, Refusal>,
     pub link: Link,
 }
 
@@ -71,7 +64,7 @@ impl Link {
             wait: Wait::Idle,
             got: 0,
             escape: false,
-            doing: Doing::Quiet,
+            doing: None,
             held: 0,
             nested: 0,
             stopped: false,
@@ -89,24 +82,24 @@ impl Link {
     pub fn begin(self, kind: CallKind) -> Started
         ensures { BeginDone self kind result }
     {
-        let barred = self.barred();
-        if barred != 0 {
-            return self.begun(Begun::Denied(barred));
+        if let Err(refusal) = self.free() {
+            return Started {
+                answer: Err(refusal),
+                link: self,
+            };
         }
         if kind.shape().longest() == 0 {
-            return self.begun(Begun::Complete);
+            return Started {
+                answer: Ok(Begun::Complete),
+                link: self,
+            };
         }
-        let doing = self.doing;
         Started {
-            answer: Begun::Waits,
+            answer: Ok(Begun::Waits),
             link: Link {
                 wait: Wait::Waiting(kind),
                 got: 0,
-                escape: self.escape,
-                doing: doing,
-                held: self.held,
-                nested: self.nested,
-                stopped: self.stopped,
+                ..self
             },
         }
     }
@@ -115,91 +108,62 @@ impl Link {
     pub fn begin_none(self) -> Started
         ensures { BeginNoneDone self result }
     {
-        let barred = self.barred();
-        if barred == 0 {
-            return self.begun(Begun::Denied(4));
-        }
-        self.begun(Begun::Denied(barred))
-    }
-
-    // The number that refuses any call: 7 on a stopped link, 12 while another waits; 0 where a call may begin.
-    fn barred(self) -> u8
-        ensures { result ≡ barred_by self }
-    {
-        if !self.usable() {
-            return 7;
-        }
-        let wait = self.wait;
-        match wait {
-            Wait::Idle => 0,
-            Wait::Waiting(_) => 12,
-        }
-    }
-
-    // The answer, and the link given.
-    fn begun(self, answer: Begun) -> Started
-        ensures { result ≡ begun_from self answer }
-    {
         Started {
-            answer: answer,
+            answer: self.free().and(Err(Refusal::NotCarried)),
             link: self,
         }
     }
 
+    // Any call is refused by a stopped link, and while another waits.
+    fn free(self) -> Result<(), Refusal>
+        ensures { result ≡ free_of self }
+    {
+        if !self.usable() {
+            return Err(Refusal::Stopped);
+        }
+        match self.wait {
+            Wait::Waiting(_) => Err(Refusal::Waiting),
+            Wait::Idle => Ok(()),
+        }
+    }
+
     // Whether the link is not stopped and within its limits.
+    #[tactic(auto, unfolding(crate::specs::View::usable_of))]
     pub fn usable(self) -> bool
         ensures { (result ≡ usable_of self) × (result ≡ true → (self.got < reply_lent) × (self.held < own_lent)) }
     {
-        if self.stopped {
-            return false;
-        }
-        let wait = self.wait;
-        let doing = self.doing;
-        let got = self.got as usize;
-        let held = self.held as usize;
-        if got < reply_room(wait) {
-            if held < own_room(doing) {
-                return self.nested < nest_room(doing);
-            }
-        }
-        false
+        !self.stopped
+            && usize::from(self.got) < reply_room(self.wait)
+            && usize::from(self.held) < own_room(self.doing)
+            && self.nested < nest_room(self.doing)
     }
 
     // An escape, which needs its second byte.
     pub fn pausing(self) -> Stepped
         ensures { result ≡ paused_from self }
     {
-        let wait = self.wait;
-        let doing = self.doing;
         Stepped {
             answer: Answer::More,
             link: Link {
-                wait: wait,
-                got: self.got,
                 escape: true,
-                doing: doing,
-                held: self.held,
-                nested: self.nested,
                 stopped: false,
+                ..self
             },
         }
     }
 
     // An answer that leaves the reply at its place, with what the actions do after it and the number of own bytes.
-    pub fn going(self, answer: Answer, doing: Doing, held: u16) -> Stepped
+    pub fn going(self, answer: Answer, doing: Option<Action>, held: u16) -> Stepped
         ensures { result ≡ going_from self answer doing held }
     {
-        let kept = self.wait;
         Stepped {
-            answer: answer,
+            answer,
             link: Link {
-                wait: kept,
-                got: self.got,
                 escape: false,
-                doing: doing,
-                held: held,
-                nested: self.nested,
+                doing,
+                held,
                 stopped: false,
+                ..self
             },
         }
     }
@@ -208,37 +172,28 @@ impl Link {
     pub fn nesting(self, answer: Answer, nested: u8) -> Stepped
         ensures { result ≡ nesting_from self answer nested }
     {
-        let wait = self.wait;
         Stepped {
-            answer: answer,
+            answer,
             link: Link {
-                wait: wait,
-                got: self.got,
                 escape: false,
-                doing: Doing::Quiet,
+                doing: None,
                 held: 0,
-                nested: nested,
+                nested,
                 stopped: false,
+                ..self
             },
         }
     }
 
     // A refusal: the record given, stopped.
-    pub fn refused(self, n: u8) -> Stepped
-        ensures { result ≡ refused_from self n }
+    pub fn refused(self, refusal: Refusal) -> Stepped
+        ensures { result ≡ refused_from self refusal }
     {
-        let wait = self.wait;
-        let doing = self.doing;
         Stepped {
-            answer: Answer::Refused(n),
+            answer: Answer::Refused(refusal),
             link: Link {
-                wait: wait,
-                got: self.got,
-                escape: self.escape,
-                doing: doing,
-                held: self.held,
-                nested: self.nested,
                 stopped: true,
+                ..self
             },
         }
     }
@@ -248,15 +203,11 @@ impl Link {
         ensures { result ≡ resting_with answer wait got }
     {
         Stepped {
-            answer: answer,
+            answer,
             link: Link {
-                wait: wait,
-                got: got,
-                escape: false,
-                doing: Doing::Quiet,
-                held: 0,
-                nested: 0,
-                stopped: false,
+                wait,
+                got,
+                ..Link::new()
             },
         }
     }
@@ -273,26 +224,21 @@ fn reply_room(wait: Wait) -> usize
 }
 
 // The most bytes of its own that an open action needs; where none is open there are none.
-fn own_room(doing: Doing) -> usize
+fn own_room(doing: Option<Action>) -> usize
     ensures { (result ≡ own_room doing) × (result ≤ own_lent) }
 {
     match doing {
-        Doing::Quiet => 1,
-        Doing::Open(action) => action.most(),
+        None => 1,
+        Some(action) => action.most(),
     }
 }
 
 // The number of open transfers is below this one: four of them, and three while the address of another is read.
-fn nest_room(doing: Doing) -> u8
+fn nest_room(doing: Option<Action>) -> u8
     ensures { result ≡ nest_room doing }
 {
     match doing {
-        Doing::Quiet => 31,
-        Doing::Open(action) => {
-            if action.opens_transfer() {
-                return 15;
-            }
-            31
-        }
+        Some(action) if action.opens_transfer() => 15,
+        _ => 31,
     }
 }

@@ -1,4 +1,5 @@
 -- How much data a link reports: no more than a byte for each raw byte, and for the open action's bytes before them.
+use Rattle.std.specs.Prelude.{Option, Some, None}
 use Prim.Native.Nat.{ℕ, suc, ◌+◌, ◌≤◌, ◌<◌}
 use native.Mathlib.Omega.{arith}
 use mathlib.Core.Path.{◌≡◌, refl, ap}
@@ -13,8 +14,7 @@ use Rattle.serial_rules.specs.Reply.{Kind, shape_of, shape_turn}
 use Rattle.serial_rules.specs.Link as rules
 use Rattle.serial_rules.proofs.Shapes.{choice}
 use Rattle.actions.specs.declared.Action.TheVariants.{Error, Event, Address, Block}
-use Rattle.link.specs.declared.Doing.{Doing}
-use Rattle.link.specs.declared.Doing.TheVariants.{Quiet, Open}
+use Rattle.actions.specs.declared.Action.{Action}
 use Rattle.link.specs.declared.Link.{Link}
 use Rattle.serial_rules.specs.Nest.{nest_of}
 use Rattle.link.specs.View.{wait_for, doing_for, own_room, usable_of, view_of}
@@ -132,12 +132,12 @@ piece_short o (rules.own a h) (data_byte b) w = own_short o a h b (shape_turn (r
 piece_short o rules.none (mark m) w = omega (arith, mark_data o (rules.meaning_of m))
 piece_short o (rules.own a h) (mark m) w = omega arith
 
-view_short : (d : Doing) (n : ℕ) (own : List ℕ) → n < own_room d → Short (doing_for d (take n own))
-view_short Quiet n own h = tt
-view_short (Open Error) n own h = tt
-view_short (Open Event) n own h = tt
-view_short (Open (Address t)) n own h = tt
-view_short (Open (Block k)) n own h =
+view_short : (d : Option Action) (n : ℕ) (own : List ℕ) → n < own_room d → Short (doing_for d (take n own))
+view_short None n own h = tt
+view_short (Some Error) n own h = tt
+view_short (Some Event) n own h = tt
+view_short (Some (Address t)) n own h = tt
+view_short (Some (Block k)) n own h =
     let low : n < 128 = choice (λ (m : ℕ). n < m → n < 128) (ltb k 0x80) (λ e r. omega (arith, ltb-true k 0x80 e)) (λ _ r. absurd (omega arith)) h in
     rw length-take (omega arith)
 
@@ -157,9 +157,9 @@ data_short l reply own x = go (usable_of l) refl
 pub view_held : (l : Link) (reply own : List ℕ) → held_in (view_of l reply own) ≤ l.held
 view_held l reply own = go (usable_of l) refl
   where
-    at : (d : Doing) → own_in (doing_for d (take l.held own)) ≤ l.held
-    at Quiet = omega arith
-    at (Open a) = rw length-take (omega arith)
+    at : (d : Option Action) → own_in (doing_for d (take l.held own)) ≤ l.held
+    at None = omega arith
+    at (Some a) = rw length-take (omega arith)
 
     go : (t : Bool) → usable_of l ≡ t → held_in (view_of l reply own) ≤ l.held
     go false u = rw u (omega arith)

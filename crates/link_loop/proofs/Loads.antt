@@ -1,4 +1,5 @@
 -- Load bytes behind one that was noted: each is a step that leaves the link as it is, so that all of them are a chain of steps.
+use Rattle.std.specs.Prelude.{Option, Some, None}
 use Prim.Native.Nat.{ℕ, ◌+◌, ◌-◌, ◌%◌, ◌<◌}
 use native.Mathlib.Omega.{arith}
 use mathlib.Core.Path.{◌≡◌, refl, sym, ap, subst}
@@ -12,8 +13,7 @@ use Rattle.serial_rules.specs.Link as rules
 use Rattle.serial_rules.proofs.Trip.{and_both}
 use Rattle.turns.specs.Plain.{is_data, All, none, one}
 use Rattle.turns.proofs.Plain.{run_all, run_most}
-use Rattle.link.specs.declared.Doing.{Doing}
-use Rattle.link.specs.declared.Doing.TheVariants.{Quiet, Open}
+use Rattle.actions.specs.declared.Action.{Action}
 use Rattle.link.specs.declared.Link.{Link}
 use Rattle.answers.specs.declared.Answer.TheVariants as variant
 use Rattle.link.specs.View.{own_room, usable_of, StepDone}
@@ -26,21 +26,21 @@ use Rattle.notes.proofs.Laws.{run_holds}
 use Rattle.link_loop.specs.Run.{Runs, stop, took}
 use Rattle.link_loop.specs.Parts.{quietly, in_load, LoadPassDone}
 
-pub quiet_is : (d : Doing) → quietly d ≡ true → d ≡ Quiet
-quiet_is Quiet e = refl
-quiet_is (Open a) e = let z : ◌≡◌ {A = ℕ} 0 1 = cc in absurd (omega arith)
+pub quiet_is : (d : Option Action) → quietly d ≡ true → d ≡ None
+quiet_is None e = refl
+quiet_is (Some a) e = cc
 
 module _ (l : Link) (u : usable_of l ≡ true) (h : in_load l ≡ true) where
-  odd : (l.nested % 2 ≡ 0 → ⊥) × (l.escape ≡ false) × (l.doing ≡ Quiet)
+  odd : (l.nested % 2 ≡ 0 → ⊥) × (l.escape ≡ false) × (l.doing ≡ None)
   odd =
       let p = and_both (not (eqb (l.nested % 2) 0)) (not l.escape && quietly l.doing) h in
       let q = and_both (not l.escape) (quietly l.doing) p.1 in
       (eqb-false (l.nested % 2) 0 (not-true (eqb (l.nested % 2) 0) p.0), not-true l.escape q.0, quiet_is l.doing q.1)
 
   none_held : l.held ≡ 0
-  none_held = let b = subst (λ (d : Doing). l.held < own_room d) odd.2 (usable_held l u) in omega arith
+  none_held = let b = subst (λ (d : Option Action). l.held < own_room d) odd.2 (usable_held l u) in omega arith
 
-  same : l ≡ record { wait = l.wait; got = l.got; escape = false; doing = Quiet; held = 0; nested = l.nested; stopped = false }
+  same : l ≡ record { wait = l.wait; got = l.got; escape = false; doing = None; held = 0; nested = l.nested; stopped = false }
   same = rw (odd.1, odd.2, none_held, usable_live l u)
 
   load_step : (reply own : List ℕ) (b : ℕ) → is_data b ≡ true → StepDone l reply own b (record { answer = variant.Loaded b; link = l }) reply own

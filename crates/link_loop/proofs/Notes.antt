@@ -12,6 +12,7 @@ use borrow.Author.Tests.{not-true, not-false, ltb-true, ltb-false, lt-ltb, le-lt
 use Rattle.escape.specs.Put.{over}
 use Rattle.serial_rules.specs.Link as rules
 use Rattle.serial_rules.specs.Record.{passes}
+use Rattle.refusal.specs.declared.Refusal.TheVariants.{NoRoom}
 use Rattle.link.specs.declared.Link.{Link}
 use Rattle.answers.specs.declared.Answer.{Answer}
 use Rattle.answers.specs.declared.Answer.TheVariants as variant
@@ -22,7 +23,7 @@ use Rattle.answers.specs.Reports.{report_of, answer_for}
 use Rattle.notes.specs.declared.Log.{Log}
 use Rattle.notes.specs.Notes.{Given, nothing, adds_all, notes_of, data_of}
 use Rattle.notes.specs.Logs.{fresh, Holds, data_in, most_count, countable, AddDone}
-use Rattle.notes.proofs.Laws.{not_both, holds_nothing, logs_hold}
+use Rattle.notes.proofs.Laws.{holds_nothing, logs_hold}
 use Rattle.notes.proofs.Counts.{content_in, data_counted, adds_append, adds_snoc, adds_quiet, notes_most}
 use Rattle.link_loop.specs.declared.Ran.{Ran}
 use Rattle.link_loop.specs.declared.Taken.{Taken}
@@ -56,7 +57,7 @@ ends_reply n = refl
 -- need-more ends no loop, and every other answer is its own last report
 more_goes : (a : Answer) → ends_of a ≡ true → a ≡ variant.More → ⊥
 unfolding passes
-more_goes a h e = let f = sym h ∙ ap ends_of e in let z : ◌≡◌ {A = ℕ} 0 1 = cc in omega arith
+more_goes a h e = let f = sym h ∙ ap ends_of e in cc
 
 pub last_is : (a : Answer) (reply own : List ℕ) → (a ≡ variant.More → ⊥) → last_of a reply own ≡ report_of a reply own ∷ []
 last_is variant.More reply own h = absurd (h refl)
@@ -132,16 +133,24 @@ begins l reply own room content = record { reports = []; passed = none; steps = 
 
 -- What `run` promises: of too little room, and of what the loop did with enough.
 pub no_room : {l : Link} {reply own raw room content : List ℕ} {r : Ran} → lacks_room l.held (length raw) (length room) (length content) ≡ true
-    → r ≡ ended_from l (variant.Refused 8) 0 fresh → RunDone l reply own raw room content r reply own room content
-no_room h q = record { short = λ _. (q, refl, refl, refl, refl); ran = λ k. absurd (not_both h k) }
+    → r ≡ ended_from l (variant.Refused NoRoom) 0 fresh → RunDone l reply own raw room content r reply own room content
+no_room h q = record { short = λ _. (q, refl, refl, refl, refl); ran = λ k. cc }
 
 -- the test of the content, without a sum
-pub sub_less : (content held bytes : ℕ) → held ≤ content → ltb (content - held) bytes ≡ ltb content (bytes + held)
+sub_less : (content held bytes : ℕ) → held ≤ content → ltb (content - held) bytes ≡ ltb content (bytes + held)
 sub_less content held bytes h = go (ltb (content - held) bytes) refl
   where
     go : (t : Bool) → ltb (content - held) bytes ≡ t → t ≡ ltb content (bytes + held)
     go true e = sym (lt-ltb content (bytes + held) (omega (arith, ltb-true (content - held) bytes e)))
     go false e = sym (le-ltb content (bytes + held) (omega (arith, ltb-false (content - held) bytes e)))
+
+pub lacks_tests : (held bytes room content : ℕ) → lacks_room held bytes room content ≡ (ltb (room / 5) bytes || (ltb content held || ltb (content - held) bytes))
+unfolding lacks_room
+lacks_tests held bytes room content = ap (λ (t : Bool). ltb (room / 5) bytes || t) (go (ltb content held) refl)
+  where
+    go : (t : Bool) → ltb content held ≡ t → ltb content (bytes + held) ≡ (t || ltb (content - held) bytes)
+    go true e = lt-ltb content (bytes + held) (omega (arith, ltb-true content held e))
+    go false e = sym (sub_less content held bytes (ltb-false content held e))
 
 -- what enough room is
 pub enough_room : (held bytes room content : ℕ) → lacks_room held bytes room content ≡ false → (5 * bytes ≤ room) × (bytes + held ≤ content)
@@ -149,8 +158,8 @@ unfolding lacks_room
 enough_room held bytes room content e = go (ltb (room / 5) bytes) refl (ltb content (bytes + held)) refl e
   where
     go : (s : Bool) → ltb (room / 5) bytes ≡ s → (t : Bool) → ltb content (bytes + held) ≡ t → (s || t) ≡ false → (5 * bytes ≤ room) × (bytes + held ≤ content)
-    go true a t b h = let z : ◌≡◌ {A = ℕ} 0 1 = cc in absurd (omega arith)
-    go false a true b h = let z : ◌≡◌ {A = ℕ} 0 1 = cc in absurd (omega arith)
+    go true a t b h = cc
+    go false a true b h = cc
     go false a false b h = (omega (arith, ltb-false (room / 5) bytes a), ltb-false content (bytes + held) b)
 
 module _ {l q : Link} {reply own room content reply-now own-now room-now content-now : List ℕ} {log : Log} (raw : List ℕ) (i : ℕ)
@@ -158,7 +167,7 @@ module _ {l q : Link} {reply own room content reply-now own-now room-now content
     (p : Passing l reply own (take i raw) room content q reply-now own-now room-now content-now log) where
   enough : {r : Ran} {reply-left own-left room-left content-left : List ℕ} → RanDone l reply own raw room content r reply-left own-left room-left content-left
       → RunDone l reply own raw room content r reply-left own-left room-left content-left
-  enough d = record { short = λ k. absurd (not_both k fits); ran = λ _. d }
+  enough d = record { short = λ k. cc; ran = λ _. d }
 
   size : length (take i raw) ≡ i
   size = length-take-le i raw low
@@ -201,7 +210,7 @@ module _ {l q : Link} {reply own room content reply-now own-now room-now content
         steps = rw (take-add i t.used raw, append_assoc) (runs_join p.steps (w.steps own-now));
         sized = ap variant.Reply (sym (length-take-le t.got left w.filled));
         within = taken_within raw i low d;
-        ended = λ f. let z : ◌≡◌ {A = ℕ} 0 1 = cc in absurd (omega arith);
+        ended = λ f. cc;
         stopped = λ _. refl;
         noted = rw quiet p.held.count;
         bytes = rw quiet laid.0;

@@ -60,19 +60,19 @@ mid_steps k n (x ∷ xs) i g reply own (one p ps) e below h room =
 -- A step that the loop passes over leaves a usable link: only a refusal stops one.
 halts : (f : rules.Frame) (t : rules.Token) (y : rules.Layer) → rules.link_at y (rules.meets f t).next ≡ rules.stopped → passes (rules.meets f t).report ≡ false
 unfolding rules.meets passes
-halts f rules.underway y e = let z : ◌≡◌ {A = ℕ} 0 1 = cc in absurd (omega arith)
+halts f rules.underway y e = cc
 halts f (rules.datum b) y e = waited f.wait e
   where
     turned : (k : Kind) (s : List ℕ) (u : Turn) → rules.link_at y (rules.reply_turned k s b u).next ≡ rules.stopped → passes (rules.reply_turned k s b u).report ≡ false
-    turned k s more e = let z : ◌≡◌ {A = ℕ} 0 1 = cc in absurd (omega arith)
-    turned k s done e = let z : ◌≡◌ {A = ℕ} 0 1 = cc in absurd (omega arith)
+    turned k s more e = cc
+    turned k s done e = cc
     turned k s (refused n) e = refl
 
     waited : (w : rules.Wait) → rules.link_at y (rules.datum_met f w b).next ≡ rules.stopped → passes (rules.datum_met f w b).report ≡ false
-    waited rules.idle e = let z : ◌≡◌ {A = ℕ} 0 1 = cc in absurd (omega arith)
+    waited rules.idle e = cc
     waited (rules.waiting k) e = turned k f.got (shape_turn (shape_of k) (length f.got) b) e
-halts f (rules.acted r) y e = let z : ◌≡◌ {A = ℕ} 0 1 = cc in absurd (omega arith)
-halts f (rules.failed r) y e = let z : ◌≡◌ {A = ℕ} 0 1 = cc in absurd (omega arith)
+halts f (rules.acted r) y e = cc
+halts f (rules.failed r) y e = cc
 halts f (rules.bad n) y e = refl
 
 stops : (l : rules.Link) (x : ℕ) → (rules.step l x).next ≡ rules.stopped → passes (rules.step l x).report ≡ false

@@ -1,4 +1,6 @@
 -- Bytes of a reply taken one behind the other: each data byte is a step, or two where an escape stands before it.
+use Rattle.link.specs.declared.Wait.TheVariants.{Idle, Waiting}
+use Rattle.std.specs.Prelude.{Some, None}
 use Prim.Native.Nat.{ℕ, suc, ◌+◌, ◌-◌, ◌≤◌, ◌<◌}
 use native.Mathlib.Numerals.{add-one}
 use native.Mathlib.Omega.{arith}
@@ -23,8 +25,6 @@ use Rattle.kind.specs.declared.CallKind.{CallKind}
 use Rattle.shapes.specs.Ahead.{ahead_of}
 use Rattle.shapes.specs.Shapes.{longest_shape}
 use Rattle.shapes.proofs.Ahead.{ahead_fits}
-use Rattle.link.specs.declared.Wait.TheVariants.{Waiting, Idle}
-use Rattle.link.specs.declared.Doing.TheVariants.{Quiet}
 use Rattle.link.specs.declared.Link.{Link}
 use Rattle.answers.specs.declared.Answer.TheVariants as variant
 use Rattle.link.specs.declared.Stepped.{Stepped}
@@ -56,7 +56,7 @@ waits_snoc n = replicate-append-replicate n 1 rules.need_more ∙ ap (λ (m : �
 
 -- an escape was seen or not
 abbrev seen : CallKind → ℕ → Bool → Link
-seen k g e = record { wait = Waiting k; got = g; escape = e; doing = Quiet; held = 0; nested = 0; stopped = false }
+seen k g e = record { wait = Waiting k; got = g; escape = e; doing = None; held = 0; nested = 0; stopped = false }
 
 seen_usable : (k : CallKind) (g : ℕ) (e : Bool) → g < longest (shape_of (kind_for k)) → usable_of (seen k g e) ≡ true
 unfolding usable_of
@@ -138,7 +138,7 @@ module _ {k : CallKind} {from i got : ℕ} {reply₀ raw reply : List ℕ} (shap
         record {
           within = (data_near raw i u).1;
           small = omega arith;
-          part = λ z. let y : ◌≡◌ {A = ℕ} 0 1 = cc in absurd (omega arith);
+          part = λ z. cc;
           all = λ _. record { before = w.before; filled = simp length-set (omega (arith, t.size)); steps = w.steps };
         }
 
@@ -157,7 +157,7 @@ taking_stops t = record {
   within = t.within;
   small = t.small;
   part = λ _ own. t.steps own;
-  all = λ z. let y : ◌≡◌ {A = ℕ} 0 1 = cc in absurd (omega arith);
+  all = λ z. cc;
 }
 
 -- a link that takes no byte of a reply at once, and one that does
@@ -166,7 +166,7 @@ take_none l small = record {
   within = omega arith;
   small = small;
   part = λ _ own. stop;
-  all = λ z. let y : ◌≡◌ {A = ℕ} 0 1 = cc in absurd (omega arith);
+  all = λ z. cc;
 }
 
 mid_is : (l : Link) {k : CallKind} → in_reply l ≡ true → l.wait ≡ Waiting k → l ≡ mid_reply k l.got

@@ -1,12 +1,11 @@
 -- What the parts of the loop promise.
-use Rattle.std.specs.Prelude.{ℕ, ◌+◌, ◌-◌, ◌%◌, ◌≤◌, ◌<◌, Bool, true, false, not, ◌&&◌, ◌≡◌, List, [], ◌∷◌, ◌++◌, map, eqb, length, take, replicate}
+use Rattle.link.specs.declared.Wait.TheVariants.{Waiting}
+use Rattle.std.specs.Prelude.{ℕ, ◌+◌, ◌-◌, ◌%◌, ◌≤◌, ◌<◌, Bool, true, false, not, ◌&&◌, ◌≡◌, List, [], ◌∷◌, ◌++◌, map, eqb, length, take, replicate, Option, Some, None}
 use Rattle.serial_rules.specs.Link as rules
+use Rattle.actions.specs.declared.Action.{Action}
 use Rattle.link.specs.declared.Link.{Link}
 use Rattle.answers.specs.declared.Answer.{Answer}
 use Rattle.kind.specs.declared.CallKind.{CallKind}
-use Rattle.link.specs.declared.Doing.{Doing}
-use Rattle.link.specs.declared.Doing.TheVariants.{Quiet, Open}
-use Rattle.link.specs.declared.Wait.TheVariants.{Waiting}
 use Rattle.link.specs.View.{fresh}
 use Rattle.notes.specs.declared.Log.{Log}
 use Rattle.notes.specs.Notes.{Given, adds_all}
@@ -21,18 +20,18 @@ ended_from l a used log = record { answer = a; used = used; noted = log.noted; s
 
 -- the link with so many bytes of its reply
 abbrev pub got_from : Link → ℕ → Link
-got_from l n = record { wait = l.wait; got = n; escape = l.escape; doing = l.doing; held = l.held; nested = l.nested; stopped = l.stopped }
+got_from l n = record l { got = n }
 
 -- no action or transfer is open and no escape seen
-abbrev pub quietly : Doing → Bool
-quietly Quiet = true
-quietly (Open a) = false
+abbrev pub quietly : Option Action → Bool
+quietly None = true
+quietly (Some a) = false
 
 abbrev pub in_reply : Link → Bool
 in_reply l = not l.stopped && (not l.escape && (eqb l.nested 0 && (eqb l.held 0 && quietly l.doing)))
 
 abbrev pub mid_reply : CallKind → ℕ → Link
-mid_reply k n = record { wait = Waiting k; got = n; escape = false; doing = Quiet; held = 0; nested = 0; stopped = false }
+mid_reply k n = record { wait = Waiting k; got = n; escape = false; doing = None; held = 0; nested = 0; stopped = false }
 
 abbrev pub taken_as : ℕ → ℕ → Bool → Taken
 taken_as used got whole = record { used = used; got = got; whole = whole }

@@ -1,8 +1,7 @@
 // The loop over raw bytes: it passes over what is not a reply, and loses nothing that was reported.
 #![tactic(auto)]
 
-ghost use Rattle.std.specs.Prelude.{◌<◌, ◌≡◌, true, false, length};
-ghost use Rattle.kind.specs.Kinds.{reply_lent};
+ghost use Rattle.std.specs.Prelude.{◌<◌, ◌≡◌, true, false};
 ghost use Rattle.link.specs.View.{usable_of};
 ghost use Rattle.link_loop.specs.Run.{lacks_room, RunDone};
 ghost use Rattle.link_loop.specs.Parts.{ended_from, taken_as, got_from, in_reply, mid_reply, TakeDone, in_load, LoadPassDone};
@@ -10,13 +9,14 @@ ghost use Rattle.link_loop.specs.Parts.{ended_from, taken_as, got_from, in_reply
 use answers::Answer;
 use escape::Unit;
 use kind::CallKind;
-use link::{Doing, Link, Wait};
+use link::{Link, Wait};
 use notes::Log;
+use refusal::Refusal;
 use turns::Turn;
 
 // Where the loop ended: a finished reply, an error or restart, a refusal, or need-more at the end of its raw bytes; how many of them it used;
 // how many notes and how many bytes of data it wrote; the link.
-#[derive(Clone, Copy)]
+#[derive(Clone, Copy, PartialEq, Eq, Debug)]
 pub struct Ran {
     pub answer: Answer,
     pub used: usize,
@@ -47,7 +47,7 @@ pub fn run(
     ensures { RunDone link reply.old own.old raw.now room.old content.old result reply.new own.new room.new content.new }
 {
     if lacks_room(link.held, raw.len(), room.len(), content.len()) {
-        return ended(link, Answer::Refused(8), 0, Log::new());
+        return ended(link, Answer::Refused(Refusal::NoRoom), 0, Log::new());
     }
     let mut at = link;
     let mut i: usize = 0;
@@ -66,8 +66,9 @@ pub fn run(
         let answer = s.answer;
         at = s.link;
         i += 1;
+        // A finished reply first: most often the loop ends with one.
         let Answer::Reply(length) = answer else {
-            if answers::ends(answer) {
+            if answer.ends() {
                 return ended(at, answer, i, log);
             }
             let noted = log.add(answer, own, room, content);
@@ -80,63 +81,34 @@ pub fn run(
 }
 
 // Whether so much room and content are too little for so many raw bytes, where an action has bytes of its own already.
+#[tactic(auto, using(crate::proofs::Notes::lacks_tests))]
 pub fn lacks_room(held: u16, bytes: usize, room: usize, content: usize) -> bool
     ensures { result ≡ lacks_room held bytes room content }
 {
     let before = held as usize;
-    if room / Log::NOTE < bytes {
-        return true;
-    }
-    if content < before {
-        return true;
-    }
-    content - before < bytes
+    room / Log::NOTE < bytes || content < before || content - before < bytes
 }
 
 // The bytes of the reply that waits, where no escape was seen and nothing is open, up to a mark, a refused byte or the end of the raw bytes: most
 // replies end here, without a look at the link for each byte.
-fn take_reply(link: Link, raw: &[u8], reply: &mut [u8]) -> Taken
-    requires { length reply.old ≡ reply_lent }
+fn take_reply(link: Link, raw: &[u8], reply: &mut [u8; CallKind::REPLY]) -> Taken
     ensures { TakeDone link reply.old raw.now result reply.new }
 {
-    if in_reply(link) {
-        let wait = link.wait;
-        match wait {
-            Wait::Idle => {}
-            Wait::Waiting(kind) => {
-                return take_bytes(kind, link.got, raw, reply);
-            }
-        }
+    match link.wait {
+        Wait::Waiting(kind) if in_reply(link) => take_bytes(kind, link.got, raw, reply),
+        _ => part_taken(0, link.got as usize),
     }
-    part_taken(0, link.got as usize)
 }
 
 // Whether the next raw byte, if it is not an escape, is of the reply that waits, where one does.
 fn in_reply(link: Link) -> bool
     ensures { result ≡ in_reply link }
 {
-    if link.stopped {
-        return false;
-    }
-    if link.escape {
-        return false;
-    }
-    if link.nested != 0 {
-        return false;
-    }
-    if link.held != 0 {
-        return false;
-    }
-    let doing = link.doing;
-    match doing {
-        Doing::Quiet => true,
-        Doing::Open(_) => false,
-    }
+    !link.stopped && !link.escape && link.nested == 0 && link.held == 0 && link.doing.is_none()
 }
 
 // The bytes of a reply behind the first ones: runs of plain ones are stored at once.
-fn take_bytes(kind: CallKind, from: u16, raw: &[u8], reply: &mut [u8]) -> Taken
-    requires { length reply.old ≡ reply_lent }
+fn take_bytes(kind: CallKind, from: u16, raw: &[u8], reply: &mut [u8; CallKind::REPLY]) -> Taken
     ensures { TakeDone (mid_reply kind «from») reply.old raw.now result reply.new }
 {
     let shape = kind.shape();
@@ -149,33 +121,24 @@ fn take_bytes(kind: CallKind, from: u16, raw: &[u8], reply: &mut [u8]) -> Taken
         i += n;
         got += n;
         let unit = escape::unit_at(raw, i);
-        match unit {
-            Unit::Gone => {
-                return part_taken(i, got);
+        let Unit::Data(b, next) = unit else {
+            return part_taken(i, got);
+        };
+        let Ok(turn) = shape.turn(got, b) else {
+            return part_taken(i, got);
+        };
+        reply[got] = b;
+        match turn {
+            Turn::Done => {
+                return Taken {
+                    used: next,
+                    got: got + 1,
+                    whole: true,
+                };
             }
-            Unit::Mark(_, _) => {
-                return part_taken(i, got);
-            }
-            Unit::Data(b, next) => {
-                let turn = shape.turn(got, b);
-                match turn {
-                    Turn::Refused(_) => {
-                        return part_taken(i, got);
-                    }
-                    Turn::Done => {
-                        reply[got] = b;
-                        return Taken {
-                            used: next,
-                            got: got + 1,
-                            whole: true,
-                        };
-                    }
-                    Turn::More => {
-                        reply[got] = b;
-                        got += 1;
-                        i = next;
-                    }
-                }
+            Turn::More => {
+                got += 1;
+                i = next;
             }
         }
     }
@@ -187,8 +150,8 @@ fn part_taken(used: usize, got: usize) -> Taken
     ensures { result ≡ taken_as used got false }
 {
     Taken {
-        used: used,
-        got: got,
+        used,
+        got,
         whole: false,
     }
 }
@@ -198,16 +161,9 @@ fn with_got(link: Link, got: usize) -> Link
     requires { got < 65536 }
     ensures { result ≡ got_from link got }
 {
-    let wait = link.wait;
-    let doing = link.doing;
     Link {
-        wait: wait,
         got: got as u16,
-        escape: link.escape,
-        doing: doing,
-        held: link.held,
-        nested: link.nested,
-        stopped: link.stopped,
+        ..link
     }
 }
 
@@ -226,17 +182,7 @@ fn pass_load(link: Link, log: Log, raw: &[u8], room: &mut [u8], content: &mut [u
 fn in_load(link: Link) -> bool
     ensures { result ≡ in_load link }
 {
-    if link.nested % 2 == 0 {
-        return false;
-    }
-    if link.escape {
-        return false;
-    }
-    let doing = link.doing;
-    match doing {
-        Doing::Quiet => true,
-        Doing::Open(_) => false,
-    }
+    link.nested % 2 != 0 && !link.escape && link.doing.is_none()
 }
 
 // The loop ended with this answer.
@@ -244,10 +190,10 @@ fn ended(link: Link, answer: Answer, used: usize, log: Log) -> Ran
     ensures { result ≡ ended_from link answer used log }
 {
     Ran {
-        answer: answer,
-        used: used,
+        answer,
+        used,
         noted: log.noted,
         stored: log.stored,
-        link: link,
+        link,
     }
 }

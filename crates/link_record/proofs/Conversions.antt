@@ -1,24 +1,25 @@
 -- The conversions between a link and its flat record, there and back.
+use Rattle.link.specs.declared.Wait.{Wait}
+use Rattle.link.specs.declared.Wait.TheVariants.{Idle, Waiting}
+use Rattle.std.specs.Prelude.{Option, Some, None}
 use Prim.Native.Nat.{ℕ, zero, suc, ◌+◌, ◌*◌, ◌-◌, ◌≤◌, ◌<◌, ◌/◌, ◌%◌}
 use native.Mathlib.Omega.{arith}
 use mathlib.Core.Path.{◌≡◌, refl, sym, ap, subst, ◌∙◌}
 use mathlib.Core.Bool.{Bool, true, false, cond, ◌&&◌, ◌||◌}
 use borrow.Author.Tests.{leb-true, le-leb, lt-leb, eq-eqb, ne_eqb, eqb-true, eqb-false}
-use lib.Dec.{leb}
+use lib.Dec.{eqb, leb}
 use Rattle.serial_rules.proofs.Trip.{and_both}
-use Rattle.link.specs.declared.Wait.{Wait}
-use Rattle.link.specs.declared.Wait.TheVariants.{Idle, Waiting}
 use Rattle.actions.specs.declared.Target.TheVariants.{Set, Execute, Load, Save}
 use Rattle.actions.specs.declared.Action.TheVariants.{Error, Event, Address, Block}
-use Rattle.link.specs.declared.Doing.{Doing}
-use Rattle.link.specs.declared.Doing.TheVariants.{Quiet, Open}
+use Rattle.actions.specs.declared.Action.{Action}
 use Rattle.link.specs.declared.Link.{Link}
-use Rattle.flat.specs.Flat.{flag_number}
-use Rattle.flat.proofs.Flags.{not_zero}
 use Rattle.link_record.specs.declared.FlatLink.{FlatLink}
 use Rattle.flat_kind.specs.Kinds.{kind_number}
 use Rattle.flat_kind.proofs.Numbers.{Each, each, kind_back_lem, kind_tag, kind_same}
-use Rattle.link_record.specs.Records.{wait_at, doing_at, seen_at, stopped_at, nested_at, link_of, tags_ok, wait_number, wait_out, doing_number, flags_number, flat_of}
+use Rattle.link_record.specs.Records.{wait_at, doing_at, seen_at, stopped_at, nested_at, link_of, tags_ok, known_link, wait_number, wait_out, doing_number, flags_number, flat_of}
+
+not_zero : (n : ℕ) → eqb (suc n) 0 ≡ false
+not_zero n = ne_eqb (suc n) 0 (λ e. omega arith)
 
 before_suc : (n : ℕ) → suc n - 1 ≡ n
 before_suc n = omega arith
@@ -29,17 +30,17 @@ wait_back_lem given Idle = refl
 wait_back_lem given (Waiting k) = rw (not_zero (kind_number k), before_suc (kind_number k)) (ap Waiting (kind_back_lem given k))
 
 -- a link in range: no more transfers are open than four, and an open control block has 1 to 127 bytes
-abbrev pub RangedDoing : Doing → Type 0
-RangedDoing Quiet = Unit
-RangedDoing (Open Error) = Unit
-RangedDoing (Open Event) = Unit
-RangedDoing (Open (Address t)) = Unit
-RangedDoing (Open (Block n)) = (0 < n) × (n < 128)
+abbrev pub RangedDoing : Option Action → Type 0
+RangedDoing None = Unit
+RangedDoing (Some Error) = Unit
+RangedDoing (Some Event) = Unit
+RangedDoing (Some (Address t)) = Unit
+RangedDoing (Some (Block n)) = (0 < n) × (n < 128)
 
 abbrev pub Ranged : Link → Type 0
 Ranged l = (l.nested ≤ 30) × RangedDoing l.doing
 
-pub block_at : (n : ℕ) → 6 < n → doing_at n ≡ Open (Block (n % 128))
+pub block_at : (n : ℕ) → 6 < n → doing_at n ≡ Some (Block (n % 128))
 block_at n h = rw (
   ne_eqb n 0 (λ e. omega arith),
   ne_eqb n 1 (λ e. omega arith),
@@ -50,17 +51,17 @@ block_at n h = rw (
   ne_eqb n 6 (λ e. omega arith),
 )
 
-doing_back_lem : (d : Doing) → RangedDoing d → doing_at (doing_number d) ≡ d
-doing_back_lem Quiet h = refl
-doing_back_lem (Open Error) h = refl
-doing_back_lem (Open Event) h = refl
-doing_back_lem (Open (Address Set)) h = refl
-doing_back_lem (Open (Address Execute)) h = refl
-doing_back_lem (Open (Address Load)) h = refl
-doing_back_lem (Open (Address Save)) h = refl
-doing_back_lem (Open (Block n)) h =
+doing_back_lem : (d : Option Action) → RangedDoing d → doing_at (doing_number d) ≡ d
+doing_back_lem None h = refl
+doing_back_lem (Some Error) h = refl
+doing_back_lem (Some Event) h = refl
+doing_back_lem (Some (Address Set)) h = refl
+doing_back_lem (Some (Address Execute)) h = refl
+doing_back_lem (Some (Address Load)) h = refl
+doing_back_lem (Some (Address Save)) h = refl
+doing_back_lem (Some (Block n)) h =
     let e : (128 + n % 128) % 128 ≡ n = omega arith in
-    block_at (128 + n % 128) (omega arith) ∙ ap (λ (k : ℕ). Open (Block k)) e
+    block_at (128 + n % 128) (omega arith) ∙ ap (λ (k : ℕ). Some (Block k)) e
 
 -- the flags of a link, by the number of the open transfers
 pub flags_low : (seen stopped : Bool) (n : ℕ) → n ≤ 30 → flags_number seen stopped n ≡ 4 * n + cond seen 1 0 + cond stopped 2 0
@@ -100,15 +101,15 @@ wait_tag (Waiting k) = le-leb (suc (kind_number k)) 13 (omega (arith, kind_tag k
 abbrev action_ok : ℕ → Bool
 action_ok n = leb n 6 || (leb 129 n && leb n 255)
 
-doing_tag : (d : Doing) → RangedDoing d → action_ok (doing_number d) ≡ true
-doing_tag Quiet h = refl
-doing_tag (Open Error) h = refl
-doing_tag (Open Event) h = refl
-doing_tag (Open (Address Set)) h = refl
-doing_tag (Open (Address Execute)) h = refl
-doing_tag (Open (Address Load)) h = refl
-doing_tag (Open (Address Save)) h = refl
-doing_tag (Open (Block n)) h = rw (lt-leb (128 + n % 128) 6 (omega arith), le-leb 129 (128 + n % 128) (omega arith), le-leb (128 + n % 128) 255 (omega arith)) refl
+doing_tag : (d : Option Action) → RangedDoing d → action_ok (doing_number d) ≡ true
+doing_tag None h = refl
+doing_tag (Some Error) h = refl
+doing_tag (Some Event) h = refl
+doing_tag (Some (Address Set)) h = refl
+doing_tag (Some (Address Execute)) h = refl
+doing_tag (Some (Address Load)) h = refl
+doing_tag (Some (Address Save)) h = refl
+doing_tag (Some (Block n)) h = rw (lt-leb (128 + n % 128) 6 (omega arith), le-leb 129 (128 + n % 128) (omega arith), le-leb (128 + n % 128) 255 (omega arith)) refl
 
 flags_tag : (seen stopped : Bool) (n : ℕ) → n ≤ 30 → leb (flags_number seen stopped n) 123 ≡ true
 flags_tag seen stopped n h = rw (flags_low seen stopped n h) (le-leb (4 * n + cond seen 1 0 + cond stopped 2 0) 123 (omega (arith, flag_low seen 1, flag_low stopped 2)))
@@ -134,8 +135,8 @@ doing_same n h = go (leb n 6) refl (leb 129 n) refl (leb n 255) refl h
         let m = leb-true 129 n e in
         let w = leb-true n 255 d in
         ap doing_number (block_at n (omega arith)) ∙ omega arith
-    go false low true e false d k = let z : ◌≡◌ {A = ℕ} 0 1 = cc in absurd (omega arith)
-    go false low false e c d k = let z : ◌≡◌ {A = ℕ} 0 1 = cc in absurd (omega arith)
+    go false low true e false d k = cc
+    go false low false e c d k = cc
 
 flags_same : (n : ℕ) → leb n 123 ≡ true → flags_number (seen_at n) (stopped_at n) (nested_at n) ≡ n
 flags_same n h =
@@ -172,24 +173,32 @@ doing_ranged n h = go (leb n 6) refl (leb 129 n) refl (leb n 255) refl h
         let m = leb-true 129 n e in
         let w = leb-true n 255 d in
         subst RangedDoing (sym (block_at n (omega arith))) (omega arith, omega arith)
-    go false low true e false d k = let z : ◌≡◌ {A = ℕ} 0 1 = cc in absurd (omega arith)
-    go false low false e c d k = let z : ◌≡◌ {A = ℕ} 0 1 = cc in absurd (omega arith)
+    go false low true e false d k = cc
+    go false low false e c d k = cc
 
 pub link_ranged : (f : FlatLink) → tags_ok f ≡ true → Ranged (link_of f)
 link_ranged f ok = let t = tags_facts f ok in (omega (arith, leb-true f.flags 123 t.1), doing_ranged f.action t.2)
 
-pub and_true : (b : Bool) → b ≡ (b && true)
+and_true : (b : Bool) → (b && true) ≡ b
 and_true true = refl
 and_true false = refl
 
--- the flags as the program adds them up
-pub flag_one : (set : Bool) → flag_number 0 set ≤ 1
-flag_one true = omega arith
-flag_one false = omega arith
+-- the tests of a record whose action is a byte
+pub tags_tests : (f : FlatLink) → f.action < 256 → tags_ok f ≡ (leb f.wait 13 && (leb f.flags 123 && (leb f.action 6 || leb 129 f.action)))
+unfolding tags_ok
+tags_tests f h = rw (le-leb f.action 255 (omega arith), and_true)
 
-flag_as : (set : Bool) → flag_number 0 set ≡ cond set 1 0
-flag_as true = refl
-flag_as false = refl
+-- a record whose link is told, and one that has none
+pub link_known : (f : FlatLink) {l : Link} → Some l ≡ known_link f → (tags_ok f ≡ true) × (l ≡ link_of f)
+link_known f {l} e = go (tags_ok f) refl e
+  where
+    go : (t : Bool) → tags_ok f ≡ t → Some l ≡ cond t (Some (link_of f)) None → (tags_ok f ≡ true) × (l ≡ link_of f)
+    go true ok e = (ok, cc)
+    go false off e = cc
 
-pub flags_are : (seen : Bool) (n : ℕ) {stopped t : Bool} {s r : ℕ} → n ≤ 30 → s ≡ flag_number 0 seen → stopped ≡ t → r ≡ 4 * n + s + cond t 2 0 → r ≡ flags_number seen stopped n
-flags_are seen n {t = t} h e is q = q ∙ rw (e, flag_as seen, is) (sym (flags_low seen t n h))
+pub link_unknown : (f : FlatLink) → None ≡ known_link f → tags_ok f ≡ false
+link_unknown f e = go (tags_ok f) refl e
+  where
+    go : (t : Bool) → tags_ok f ≡ t → None ≡ cond t (Some (link_of f)) None → tags_ok f ≡ false
+    go true ok e = cc
+    go false off e = off

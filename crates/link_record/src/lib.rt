@@ -2,10 +2,10 @@
 #![tactic(auto)]
 
 ghost use Rattle.std.specs.Prelude.{◌≡◌};
-ghost use Rattle.link_record.specs.Records.{wait_at, doing_at, link_of, tags_ok, fresh_link, wait_number, wait_out, doing_number, flags_number, flat_of};
+ghost use Rattle.link_record.specs.Records.{wait_at, doing_at, known_link, tags_ok, fresh_link, wait_number, wait_out, doing_number, flags_number, flat_of};
 
 use actions::{Action, Target};
-use link::{Doing, Link, Wait};
+use link::{Link, Wait};
 
 // A link. `got` bytes of the reply and `held` bytes of the open action came so far. `wait` is 0 where the link is idle, else one more than the
 // number of the call that waits, OSWORD with its `out_length`; `action` is 0 where none is open, 1 for an error, 2 for an event, 3 for an
@@ -13,7 +13,7 @@ use link::{Doing, Link, Wait};
 // the link is stopped, and 4 times the number of the open transfers. A record with `wait` above 13, `action` from 7 to 128 or `flags` above 123
 // counts as stopped. It has eight bytes, so that it crosses to C in one register.
 #[repr(C)]
-#[derive(Clone, Copy)]
+#[derive(Clone, Copy, PartialEq, Eq, Debug)]
 pub struct FlatLink {
     pub got: u16,
     pub held: u16,
@@ -37,34 +37,31 @@ pub fn fresh() -> FlatLink
     }
 }
 
-// Whether the numbers of what waits, of the action and of the flags are in range.
-pub fn has_tags(link: FlatLink) -> bool
-    ensures { result ≡ tags_ok link }
-{
-    if 13 < link.wait {
-        return false;
+impl FlatLink {
+    // The link of the record, if its numbers are in range.
+    pub fn link(self) -> Option<Link>
+        ensures { result ≡ known_link self }
+    {
+        if !self.has_tags() {
+            return None;
+        }
+        Some(Link {
+            wait: wait_at(self.wait, self.out_length),
+            got: self.got,
+            escape: self.flags % 2 == 1,
+            doing: doing_at(self.action),
+            held: self.held,
+            nested: self.flags / 4,
+            stopped: self.flags / 2 % 2 == 1,
+        })
     }
-    if 123 < link.flags {
-        return false;
-    }
-    if link.action <= 6 {
-        return true;
-    }
-    129 <= link.action
-}
 
-// The link of a flat record, and its parts by number.
-pub fn unflattened(link: FlatLink) -> Link
-    ensures { result ≡ link_of link }
-{
-    Link {
-        wait: wait_at(link.wait, link.out_length),
-        got: link.got,
-        escape: link.flags % 2 == 1,
-        doing: doing_at(link.action),
-        held: link.held,
-        nested: link.flags / 4,
-        stopped: link.flags / 2 % 2 == 1,
+    // Whether the numbers of what waits, of the action and of the flags are in range.
+    #[tactic(auto, using(crate::proofs::Conversions::tags_tests))]
+    fn has_tags(self) -> bool
+        ensures { result ≡ tags_ok self }
+    {
+        self.wait <= 13 && self.flags <= 123 && (self.action <= 6 || 129 <= self.action)
     }
 }
 
@@ -72,23 +69,24 @@ fn wait_at(n: u8, out_length: u8) -> Wait
     ensures { result ≡ wait_at n out_length }
 {
     if n == 0 {
-        return Wait::Idle;
+        Wait::Idle
+    } else {
+        Wait::Waiting(flat_kind::kind_at(n - 1, out_length))
     }
-    Wait::Waiting(flat_kind::kind_at(n - 1, out_length))
 }
 
-fn doing_at(n: u8) -> Doing
+fn doing_at(n: u8) -> Option<Action>
     ensures { result ≡ doing_at n }
 {
     match n {
-        0 => Doing::Quiet,
-        1 => Doing::Open(Action::Error),
-        2 => Doing::Open(Action::Event),
-        3 => Doing::Open(Action::Address(Target::Set)),
-        4 => Doing::Open(Action::Address(Target::Execute)),
-        5 => Doing::Open(Action::Address(Target::Load)),
-        6 => Doing::Open(Action::Address(Target::Save)),
-        _ => Doing::Open(Action::Block(n % 128)),
+        0 => None,
+        1 => Some(Action::Error),
+        2 => Some(Action::Event),
+        3 => Some(Action::Address(Target::Set)),
+        4 => Some(Action::Address(Target::Execute)),
+        5 => Some(Action::Address(Target::Load)),
+        6 => Some(Action::Address(Target::Save)),
+        _ => Some(Action::Block(n % 128)),
     }
 }
 
@@ -96,14 +94,12 @@ fn doing_at(n: u8) -> Doing
 pub fn flattened(given: FlatLink, link: Link) -> FlatLink
     ensures { result ≡ flat_of given link }
 {
-    let wait = link.wait;
-    let doing = link.doing;
     FlatLink {
         got: link.got,
         held: link.held,
-        wait: wait_number(wait),
-        out_length: wait_out(given.out_length, wait),
-        action: doing_number(doing),
+        wait: wait_number(link.wait),
+        out_length: wait_out(given.out_length, link.wait),
+        action: doing_number(link.doing),
         flags: flags_number(link.escape, link.stopped, link.nested),
     }
 }
@@ -126,22 +122,18 @@ fn wait_out(given: u8, wait: Wait) -> u8
     }
 }
 
-fn doing_number(doing: Doing) -> u8
+fn doing_number(doing: Option<Action>) -> u8
     ensures { result ≡ doing_number doing }
 {
     match doing {
-        Doing::Quiet => 0,
-        Doing::Open(action) => match action {
-            Action::Error => 1,
-            Action::Event => 2,
-            Action::Address(target) => match target {
-                Target::Set => 3,
-                Target::Execute => 4,
-                Target::Load => 5,
-                Target::Save => 6,
-            },
-            Action::Block(n) => 128 + n % 128,
-        },
+        None => 0,
+        Some(Action::Error) => 1,
+        Some(Action::Event) => 2,
+        Some(Action::Address(Target::Set)) => 3,
+        Some(Action::Address(Target::Execute)) => 4,
+        Some(Action::Address(Target::Load)) => 5,
+        Some(Action::Address(Target::Save)) => 6,
+        Some(Action::Block(n)) => 128 + n % 128,
     }
 }
 
@@ -152,9 +144,6 @@ fn flags_number(escape: bool, stopped: bool, nested: u8) -> u8
     if 30 < nested {
         return 255;
     }
-    let seen = flat::flag_number(0, escape);
-    if stopped {
-        return 4 * nested + seen + 2;
-    }
-    4 * nested + seen
+    let flags = 4 * nested + u8::from(escape);
+    if stopped { flags + 2 } else { flags }
 }

@@ -1,5 +1,8 @@
 -- What `step` promises settles all that it does: two results that it allows are one, and so are the lent bytes that they leave. The rules give the
 -- answer and the bytes; a link that is stopped is settled by name, and any other has all its fields in its view.
+use Rattle.link.specs.declared.Wait.{Wait}
+use Rattle.link.specs.declared.Wait.TheVariants.{Idle, Waiting}
+use Rattle.std.specs.Prelude.{Option, Some, None}
 use Prim.Native.Nat.{ℕ, ◌≤◌, ◌<◌}
 use mathlib.Core.Path.{◌≡◌, refl, sym, ap, ap₂, subst, ◌∙◌}
 use mathlib.Core.Bool.{Bool, true, false}
@@ -20,14 +23,11 @@ use Rattle.serial_rules.proofs.Nest.{nest_number, nest_back}
 use Rattle.kind.specs.Kinds.{kind_for, reply_lent}
 use Rattle.kind.specs.declared.CallKind.{CallKind}
 use Rattle.kind.specs.declared.CallKind.TheVariants.{Osrdch, Oscli, OsbyteLow, OsbyteHigh, Osword, Osword0, Osargs, Osbget, Osbput, OsfindClose, OsfindOpen, Osfile, Osgbpb}
-use Rattle.link.specs.declared.Wait.{Wait}
-use Rattle.link.specs.declared.Wait.TheVariants.{Idle, Waiting}
 use Rattle.actions.specs.Actions.{action_for}
 use Rattle.actions.specs.declared.Action.{Action}
 use Rattle.actions.specs.declared.Action.TheVariants.{Error, Event, Address, Block}
 use Rattle.actions.specs.declared.Target.TheVariants.{Set, Execute, Load, Save}
-use Rattle.link.specs.declared.Doing.{Doing}
-use Rattle.link.specs.declared.Doing.TheVariants.{Quiet, Open}
+use Rattle.refusal.specs.Refusals.{refusal_at}
 use Rattle.link.specs.declared.Link.{Link}
 use Rattle.answers.specs.declared.Answer.{Answer}
 use Rattle.link.specs.declared.Stepped.{Stepped}
@@ -89,21 +89,21 @@ action_back_lem (Address Load) = refl
 action_back_lem (Address Save) = refl
 action_back_lem (Block n) = refl
 
-abbrev doing_back : rules.Doing → Doing
-doing_back rules.none = Quiet
-doing_back (rules.own a h) = Open (action_back a)
+abbrev doing_back : rules.Doing → Option Action
+doing_back rules.none = None
+doing_back (rules.own a h) = Some (action_back a)
 
-doing_back_lem : (d : Doing) (h : List ℕ) → doing_back (doing_for d h) ≡ d
-doing_back_lem Quiet h = refl
-doing_back_lem (Open a) h = ap Open (action_back_lem a)
+doing_back_lem : (d : Option Action) (h : List ℕ) → doing_back (doing_for d h) ≡ d
+doing_back_lem None h = refl
+doing_back_lem (Some a) h = ap Some (action_back_lem a)
 
 abbrev held_in : rules.Doing → ℕ
 held_in rules.none = 0
 held_in (rules.own a h) = length h
 
-held_back : (d : Doing) (n : ℕ) (own : List ℕ) → n < own_room d → n ≤ length own → held_in (doing_for d (take n own)) ≡ n
-held_back Quiet n own h room = omega arith
-held_back (Open a) n own h room = length-take-le n own room
+held_back : (d : Option Action) (n : ℕ) (own : List ℕ) → n < own_room d → n ≤ length own → held_in (doing_for d (take n own)) ≡ n
+held_back None n own h room = omega arith
+held_back (Some a) n own h room = length-take-le n own room
 
 abbrev link_back : rules.Layer → rules.Frame → Link
 link_back y f =
@@ -157,12 +157,12 @@ own_length (rules.live y f) x own = go y.doing (piece_of y.escape x)
     go d (mark m) = refl
 
 -- no action needs more bytes of its own than are lent
-own_fits : (d : Doing) → own_room d ≤ own_lent
-own_fits Quiet = omega arith
-own_fits (Open Error) = omega arith
-own_fits (Open Event) = omega arith
-own_fits (Open (Address t)) = omega arith
-own_fits (Open (Block n)) = choice (λ (k : ℕ). k ≤ own_lent) (ltb n 0x80) (λ low. omega (arith, ltb-true n 0x80 low)) (λ _. omega arith)
+own_fits : (d : Option Action) → own_room d ≤ own_lent
+own_fits None = omega arith
+own_fits (Some Error) = omega arith
+own_fits (Some Event) = omega arith
+own_fits (Some (Address t)) = omega arith
+own_fits (Some (Block n)) = choice (λ (k : ℕ). k ≤ own_lent) (ltb n 0x80) (λ low. omega (arith, ltb-true n 0x80 low)) (λ _. omega arith)
 
 -- what waits after a step waited before it, or nothing does, so that the most bytes of its reply stay below a limit
 abbrev wait_room : rules.Wait → ℕ
@@ -206,7 +206,7 @@ pub data Refuses : rules.Report → Type 0 where
   refuses : (n : ℕ) → Refuses (rules.refusal n)
 
 never : {y : rules.Layer} {f : rules.Frame} → rules.live y f ≡ rules.stopped → ⊥
-never e = let z : ◌≡◌ {A = ℕ} 0 1 = cc in omega arith
+never e = cc
 
 pub stops : (v : rules.Link) (x : ℕ) → (rules.step v x).next ≡ rules.stopped → Refuses (rules.step v x).report
 unfolding rules.step rules.meets
@@ -257,7 +257,7 @@ module _ (l : Link) (reply own : List ℕ) (x : ℕ) (lent : length reply ≡ re
         sym (link_back_lem n reply-left own-left u got held l) ∙ ap (leaves l) d.next
 
     refused_is : {r : rules.Report} → Refuses r → (view_of l reply own ≡ rules.stopped → ⊥) → o.answer ≡ answer_for r → o.link ≡ stopped_from l
-    refused_is (refuses n) runs e = d.stops n runs e
+    refused_is (refuses n) runs e = d.stops (refusal_at n) runs e
 
     link_is : usable_of l ≡ true → o.link ≡ leaves l (rules.step (view_of l reply own) x).next
     link_is u = go (usable_of o.link) refl

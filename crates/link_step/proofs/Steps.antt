@@ -1,4 +1,7 @@
 -- What each outcome of a raw byte promises: one law for each.
+use Rattle.link.specs.declared.Wait.{Wait}
+use Rattle.link.specs.declared.Wait.TheVariants.{Idle, Waiting}
+use Rattle.std.specs.Prelude.{Option, Some, None}
 use Prim.Native.Nat.{ℕ, ◌+◌, ◌-◌, ◌*◌, ◌≤◌, ◌<◌, ◌/◌, ◌%◌}
 use mathlib.Core.Path.{◌≡◌, refl, sym, ap, subst, ◌∙◌}
 use mathlib.Core.Bool.{Bool, true, false, cond}
@@ -10,7 +13,7 @@ use lib.Dec.{eqb}
 use lib.ListN.{length, take, set, length-drop, length-set}
 use lib.Seq.{length-take-le, take-set-le, get_or-take, get_or-set_same, get_or-set_other}
 use borrow.Author.Tests.{ltb-true, lt-ltb, eq-eqb, ne_eqb, eqb-true, eqb-false}
-use Rattle.serial_rules.specs.Escape.{Piece, pending, data_byte, mark, piece_of}
+use Rattle.serial_rules.specs.Escape.{pending, data_byte, mark, piece_of}
 use Rattle.serial_rules.specs.Body.{more, done, refused}
 use Rattle.serial_rules.specs.Fields.{at}
 use Rattle.serial_rules.specs.Reply.{shape_of, shape_turn}
@@ -29,18 +32,18 @@ use Rattle.actions.specs.declared.Meaning.{Meaning}
 use Rattle.actions.specs.declared.Meaning.TheVariants.{Starts}
 use Rattle.kind.specs.Kinds.{kind_for}
 use Rattle.kind.specs.declared.CallKind.{CallKind}
-use Rattle.link.specs.declared.Wait.{Wait}
-use Rattle.link.specs.declared.Wait.TheVariants.{Idle, Waiting}
-use Rattle.link.specs.declared.Doing.{Doing}
-use Rattle.link.specs.declared.Doing.TheVariants.{Quiet, Open}
+use Rattle.refusal.specs.declared.Refusal.{Refusal}
+use Rattle.refusal.specs.declared.Refusal.TheVariants.{NotCarried, Misplaced, Stopped, BadField, TooDeep}
+use Rattle.refusal.specs.Refusals.{number}
+use Rattle.refusal.proofs.Refusals.{refusal_back}
 use Rattle.link.specs.declared.Link.{Link}
 use Rattle.answers.specs.declared.Answer.{Answer}
 use Rattle.answers.specs.declared.Answer.TheVariants as variant
 use Rattle.link.specs.declared.Stepped.{Stepped}
-use Rattle.link.specs.View.{wait_for, doing_for, reply_room, own_room, nest_room, usable_of, wait_lent, doing_lent, piece_lent, reply_after, own_after, StepDone}
+use Rattle.link.specs.View.{wait_for, doing_for, reply_room, own_room, nest_room, usable_of, wait_lent, doing_lent, reply_after, own_after, StepDone}
 use Rattle.answers.specs.Reports.{transfer_for, report_of, answer_for, failure_for, told_by}
 use Rattle.link.specs.Parts.{refused_from, paused_from, going_from, nesting_from, resting_with}
-use Rattle.link_step.specs.Parts.{placed_from, frame_of, doing_of, LinkGives, Met, MarkDone, OutsideDone, OpeningDone, StartDone, ClosingDone, DataDone, ReplyByteDone, OwnDone, finish_at, FinishedDone}
+use Rattle.link_step.specs.Parts.{placed_from, frame_of, doing_of, LinkGives, Met, ReadDone, MarkDone, OutsideDone, OpeningDone, StartDone, ClosingDone, DataDone, ReplyByteDone, OwnDone, finish_at, FinishedDone}
 use Rattle.answers.specs.contracts.Answer as answers
 use Rattle.answers.proofs.Reports.{told, answer_back, failure_told, failure_sized, failure_of_lem}
 use Rattle.actions.proofs.Starts.{may_open}
@@ -48,9 +51,9 @@ use Rattle.link.proofs.Limits.{usable_got, usable_held, usable_nested, nested_lo
 
 -- the five ways in which a step leaves the record
 module _ (l : Link) (reply own : List ℕ) where
-  refused_gives : (n : ℕ) → LinkGives l (rules.gives (rules.refusal n) rules.stopped) reply own (refused_from l n) reply own
+  refused_gives : (r : Refusal) → LinkGives l (rules.gives (rules.refusal (number r)) rules.stopped) reply own (refused_from l r) reply own
   unfolding usable_of
-  refused_gives n = record { step_is = refl; answer_is = refl; reply_bytes = refl; own_bytes = refl; stops = λ k e. refl }
+  refused_gives r = record { step_is = refl; answer_is = ap variant.Refused (sym (refusal_back r)); reply_bytes = refl; own_bytes = refl; stops = λ k e. refl }
 
   paused_gives : usable_of l ≡ true →
       LinkGives l (rules.gives rules.need_more (rules.live (rules.layer true (doing_of l own) (nest_of l.nested)) (frame_of l reply))) reply own (paused_from l) reply own
@@ -68,7 +71,7 @@ module _ (l : Link) (reply own : List ℕ) where
     stops = λ k e. absurd (told variant.More (omega arith) k e);
   }
 
-  going_gives : (a : Answer) (d : Doing) (n : ℕ) → usable_of l ≡ true → n < own_room d → l.nested < nest_room d → tag_of answers.the_type a < 11 → a ≡ answer_for (report_of a reply own) →
+  going_gives : (a : Answer) (d : Option Action) (n : ℕ) → usable_of l ≡ true → n < own_room d → l.nested < nest_room d → tag_of answers.the_type a < 11 → a ≡ answer_for (report_of a reply own) →
       LinkGives l (rules.gives (report_of a reply own) (rules.live (rules.layer false (doing_for d (take n own)) (nest_of l.nested)) (frame_of l reply))) reply own (going_from l a d n) reply own
   unfolding usable_of
   going_gives a d n u h m t is = record {
@@ -81,8 +84,8 @@ module _ (l : Link) (reply own : List ℕ) where
 
   -- with no action open
   quiet_gives : (a : Answer) → usable_of l ≡ true → tag_of answers.the_type a < 11 → a ≡ answer_for (report_of a reply own) →
-      LinkGives l (rules.gives (report_of a reply own) (rules.live (rules.layer false rules.none (nest_of l.nested)) (frame_of l reply))) reply own (going_from l a Quiet 0) reply own
-  quiet_gives a u t is = going_gives a Quiet 0 u (omega arith) (omega (arith, nested_low l u)) t is
+      LinkGives l (rules.gives (report_of a reply own) (rules.live (rules.layer false rules.none (nest_of l.nested)) (frame_of l reply))) reply own (going_from l a None 0) reply own
+  quiet_gives a u t is = going_gives a None 0 u (omega arith) (omega (arith, nested_low l u)) t is
 
   nesting_gives : (a : Answer) (n : ℕ) → usable_of l ≡ true → n ≤ 30 → tag_of answers.the_type a < 11 → a ≡ answer_for (report_of a reply own) →
       LinkGives l (rules.gives (report_of a reply own) (rules.live (rules.layer false rules.none (nest_of n)) (frame_of l reply))) reply own (nesting_from l a n) reply own
@@ -107,10 +110,10 @@ module _ (l : Link) (reply own : List ℕ) where
   }
 
 -- What is promised of a byte, by what the actions do and by what waits: only that part of the record is looked at.
-abbrev MarkAt : Link → List ℕ → List ℕ → ℕ → Stepped → Doing → Type 0
+abbrev MarkAt : Link → List ℕ → List ℕ → ℕ → Stepped → Option Action → Type 0
 MarkAt l reply own m x d = Met l reply own (rules.mark_seen (nest_of l.nested) (doing_for d (take l.held own)) m) x reply own
 
-abbrev DataAt : Link → List ℕ → List ℕ → ℕ → Stepped → List ℕ → List ℕ → Doing → Type 0
+abbrev DataAt : Link → List ℕ → List ℕ → ℕ → Stepped → List ℕ → List ℕ → Option Action → Type 0
 DataAt l reply own b x reply-left own-left d =
     Met l reply (doing_lent own (doing_for d (take l.held own)) b) (rules.data_seen (nest_of l.nested) (doing_for d (take l.held own)) b) x reply-left own-left
 
@@ -120,7 +123,7 @@ ReplyAt l reply own b x left w =
     LinkGives l (rules.gives m.report (rules.link_at (rules.layer false rules.none []) m.next)) (wait_lent reply (wait_for w) (take l.got reply) b) own x left own
 
 -- where an action may start there is room for what it opens
-start_low : (n : ℕ) (a : Action) → n ≤ 30 → rules.may_start (action_for a) (nest_of n) ≡ true → n < nest_room (Open a)
+start_low : (n : ℕ) (a : Action) → n ≤ 30 → rules.may_start (action_for a) (nest_of n) ≡ true → n < nest_room (Some a)
 start_low n a h may =
     choice (λ (k : ℕ). n < k) (opens_transfer a) (λ e. ltb-true n 15 (may_open n a e ∙ may)) (λ _. omega arith)
 
@@ -141,28 +144,28 @@ open_top l u n0 = nest_top l.nested (omega arith) (nested_low l u)
 
 -- a mark outside an action, by what it means
 module _ (l : Link) {x : Stepped} where
-  pub mark_unknown : x ≡ refused_from l 4 → OutsideDone l rules.unknown x
+  pub mark_unknown : x ≡ refused_from l NotCarried → OutsideDone l rules.unknown x
   unfolding rules.meets
-  mark_unknown q reply own = rw q (refused_gives l reply own 4)
+  mark_unknown q reply own = rw q (refused_gives l reply own NotCarried)
 
-  pub end_alone : l.nested ≡ 0 → x ≡ refused_from l 5 → ClosingDone l x
+  pub end_alone : l.nested ≡ 0 → x ≡ refused_from l Misplaced → ClosingDone l x
   unfolding rules.meets
-  end_alone e q reply own = rw (none_open l e, q) (refused_gives l reply own 5)
+  end_alone e q reply own = rw (none_open l e, q) (refused_gives l reply own Misplaced)
 
-  pub fifth_refused : (a : Action) → rules.may_start (action_for a) (nest_of l.nested) ≡ false → x ≡ refused_from l 13 → StartDone l a x
+  pub fifth_refused : (a : Action) → rules.may_start (action_for a) (nest_of l.nested) ≡ false → x ≡ refused_from l TooDeep → StartDone l a x
   unfolding rules.meets
-  fifth_refused a may q reply own = rw (may, q) (refused_gives l reply own 13)
+  fifth_refused a may q reply own = rw (may, q) (refused_gives l reply own TooDeep)
 
   module _ (u : usable_of l ≡ true) where
-    pub escape_told : {on : Bool} → x ≡ going_from l (variant.EscapeState on) Quiet 0 → OutsideDone l (rules.state on) x
+    pub escape_told : {on : Bool} → x ≡ going_from l (variant.EscapeState on) None 0 → OutsideDone l (rules.state on) x
     unfolding rules.meets
     escape_told {on} q reply own = rw q (quiet_gives l reply own (variant.EscapeState on) u (omega arith) refl)
 
     -- an action starts: it has room for its bytes, and for the transfer that it opens
-    pub started : (a : Action) → 0 < own_room (Open a) → rules.may_start (action_for a) (nest_of l.nested) ≡ true → x ≡ going_from l variant.More (Open a) 0 → StartDone l a x
+    pub started : (a : Action) → 0 < own_room (Some a) → rules.may_start (action_for a) (nest_of l.nested) ≡ true → x ≡ going_from l variant.More (Some a) 0 → StartDone l a x
     unfolding rules.meets
     started a some may q reply own =
-        rw (may, q) (going_gives l reply own variant.More (Open a) 0 u some (start_low l.nested a (nested_low l u) may) (omega arith) refl)
+        rw (may, q) (going_gives l reply own variant.More (Some a) 0 u some (start_low l.nested a (nested_low l u) may) (omega arith) refl)
 
     pub transfer_ended : (l.nested ≡ 0 → ⊥) → x ≡ nesting_from l (variant.Ended (eqb (l.nested % 2) 0)) ((l.nested - 1) / 2) → ClosingDone l x
     unfolding rules.meets
@@ -172,7 +175,7 @@ module _ (l : Link) {x : Stepped} where
         (nesting_gives l reply own (variant.Ended s) ((l.nested - 1) / 2) u (omega (arith, nested_low l u)) (omega arith) (answer_back (variant.Ended s) reply own tt))
 
 -- an action that a mark starts has some bytes of its own
-pub start_some : (m : ℕ) {w : Meaning} {a : Action} → meaning_for w ≡ rules.meaning_of m → w ≡ Starts a → 0 < own_room (Open a)
+pub start_some : (m : ℕ) {w : Meaning} {a : Action} → meaning_for w ≡ rules.meaning_of m → w ≡ Starts a → 0 < own_room (Some a)
 start_some m {w} {a} e is = subst depth.HasOwn (sym e ∙ ap meaning_for is) (depth.has_own m)
 
 module _ (l : Link) (m : ℕ) {x : Stepped} where
@@ -180,27 +183,27 @@ module _ (l : Link) (m : ℕ) {x : Stepped} where
   pub opening : {w v : Meaning} → meaning_for w ≡ rules.meaning_of m → w ≡ v → OutsideDone l (meaning_for v) x → OpeningDone l m x
   opening e is g = subst (λ (w : rules.Meaning). OutsideDone l w x) (sym (ap meaning_for is) ∙ e) g
 
-  pub mark_outside_lem : l.doing ≡ Quiet → OpeningDone l m x → MarkDone l m x
+  pub mark_outside_lem : l.doing ≡ None → OpeningDone l m x → MarkDone l m x
   mark_outside_lem e g reply own = subst (MarkAt l reply own m x) (sym e) (g reply own)
 
-  pub mark_inside : {a : Action} → l.doing ≡ Open a → x ≡ refused_from l 5 → MarkDone l m x
+  pub mark_inside : {a : Action} → l.doing ≡ Some a → x ≡ refused_from l Misplaced → MarkDone l m x
   unfolding rules.meets
-  mark_inside e q reply own = subst (MarkAt l reply own m x) (sym e) (rw q (refused_gives l reply own 5))
+  mark_inside e q reply own = subst (MarkAt l reply own m x) (sym e) (rw q (refused_gives l reply own Misplaced))
 
 -- a data byte outside an action: of the innermost transfer
 module _ (l : Link) (reply : List ℕ) (b : ℕ) {x : Stepped} (u : usable_of l ≡ true) (n0 : l.nested ≡ 0 → ⊥) where
-  pub data_loaded : l.nested % 2 ≡ 1 → x ≡ going_from l (variant.Loaded b) Quiet 0 → ReplyByteDone l reply b x reply
+  pub data_loaded : l.nested % 2 ≡ 1 → x ≡ going_from l (variant.Loaded b) None 0 → ReplyByteDone l reply b x reply
   unfolding rules.meets
   data_loaded odd q own =
       let top : nest_of l.nested ≡ rules.load ∷ nest_of ((l.nested - 1) / 2) = open_top l u n0 ∙ rw (eq-eqb (l.nested % 2) 1 odd) refl in
       subst (λ (t : rules.Token). Met l reply own (rules.seen t (rules.layer false rules.none (nest_of l.nested))) x reply own) (sym (ap (λ (o : List rules.Transfer). rules.innermost o b) top))
       (rw q (quiet_gives l reply own (variant.Loaded b) u (omega arith) refl))
 
-  pub data_saved : (l.nested % 2 ≡ 1 → ⊥) → x ≡ refused_from l 9 → ReplyByteDone l reply b x reply
+  pub data_saved : (l.nested % 2 ≡ 1 → ⊥) → x ≡ refused_from l BadField → ReplyByteDone l reply b x reply
   unfolding rules.meets
   data_saved even q own =
       let top : nest_of l.nested ≡ rules.save ∷ nest_of ((l.nested - 1) / 2) = open_top l u n0 ∙ rw (ne_eqb (l.nested % 2) 1 even) refl in
-      rw (top, q) (refused_gives l reply own 9)
+      rw (top, q) (refused_gives l reply own BadField)
 
 -- and outside every transfer
 module _ (l : Link) (reply : List ℕ) (b : ℕ) {x : Stepped} (z : l.nested ≡ 0) where
@@ -208,17 +211,17 @@ module _ (l : Link) (reply : List ℕ) (b : ℕ) {x : Stepped} (z : l.nested ≡
   unfolding rules.meets
   outer own g = rw (none_open l z) g
 
-  pub character_told : usable_of l ≡ true → l.wait ≡ Idle → x ≡ going_from l (variant.Character b) Quiet 0 → ReplyByteDone l reply b x reply
+  pub character_told : usable_of l ≡ true → l.wait ≡ Idle → x ≡ going_from l (variant.Character b) None 0 → ReplyByteDone l reply b x reply
   unfolding rules.meets
   character_told u e q own =
       outer own (subst (ReplyAt l reply own b x reply) (sym e)
       (rw q (rw (none_open l z) at (quiet_gives l reply own (variant.Character b) u (omega arith) refl))))
 
   module _ {k : CallKind} (waits : l.wait ≡ Waiting k) (h : l.got < length reply) where
-    pub reply_refused : {n : ℕ} → shape_turn (shape_of (kind_for k)) l.got b ≡ refused n → x ≡ refused_from l n → ReplyByteDone l reply b x reply
-    reply_refused {n} t q own =
+    pub reply_refused : {r : Refusal} → shape_turn (shape_of (kind_for k)) l.got b ≡ refused (number r) → x ≡ refused_from l r → ReplyByteDone l reply b x reply
+    reply_refused {r} t q own =
         outer own (subst (ReplyAt l reply own b x reply) (sym waits)
-        (rw (length-take-le l.got reply (le_of_lt h), t, q) (refused_gives l reply own n)))
+        (rw (length-take-le l.got reply (le_of_lt h), t, q) (refused_gives l reply own r)))
 
     pub reply_more : shape_turn (shape_of (kind_for k)) l.got b ≡ more → x ≡ resting_with variant.More (Waiting k) (l.got + 1) →
         ReplyByteDone l reply b x (set reply l.got b)
@@ -252,31 +255,31 @@ finish_after (Address s) n b own h room t =
 finish_after (Block k) n b own h room t = ap (λ (s : List ℕ). rules.acted (rules.block s)) (sym (take_next own n b room))
 
 -- a data byte of an open action's own
-own_held : (l : Link) {a : Action} → l.doing ≡ Open a → usable_of l ≡ true → l.held < rules.own_most (action_for a)
-own_held l is u = subst (λ (d : Doing). l.held < own_room d) is (usable_held l u)
+own_held : (l : Link) {a : Action} → l.doing ≡ Some a → usable_of l ≡ true → l.held < rules.own_most (action_for a)
+own_held l is u = subst (λ (d : Option Action). l.held < own_room d) is (usable_held l u)
 
-pub own_nested : (l : Link) {a : Action} → l.doing ≡ Open a → usable_of l ≡ true → l.nested < nest_room (Open a)
-own_nested l is u = subst (λ (d : Doing). l.nested < nest_room d) is (usable_nested l u)
+pub own_nested : (l : Link) {a : Action} → l.doing ≡ Some a → usable_of l ≡ true → l.nested < nest_room (Some a)
+own_nested l is u = subst (λ (d : Option Action). l.nested < nest_room d) is (usable_nested l u)
 
 -- an error does not end at its first byte
 pub error_full : {a : Action} (n b : ℕ) → shape_turn (rules.own_shape (action_for a)) n b ≡ done → a ≡ Error → 1 ≤ n
 error_full n b t is = text_done n b (subst (λ (a : Action). shape_turn (rules.own_shape (action_for a)) n b ≡ done) is t)
 
-module _ (l : Link) (own : List ℕ) (b : ℕ) {x : Stepped} {a : Action} (is : l.doing ≡ Open a) (h : l.held < length own) where
-  pub own_refused : {n : ℕ} → shape_turn (rules.own_shape (action_for a)) l.held b ≡ refused n → x ≡ refused_from l n → OwnDone l own b x own
+module _ (l : Link) (own : List ℕ) (b : ℕ) {x : Stepped} {a : Action} (is : l.doing ≡ Some a) (h : l.held < length own) where
+  pub own_refused : {r : Refusal} → shape_turn (rules.own_shape (action_for a)) l.held b ≡ refused (number r) → x ≡ refused_from l r → OwnDone l own b x own
   unfolding rules.meets
-  own_refused {n} t q reply =
+  own_refused {r} t q reply =
       subst (DataAt l reply own b x reply own) (sym is)
-      (rw (length-take-le l.held own (le_of_lt h), t, q) (refused_gives l reply own n))
+      (rw (length-take-le l.held own (le_of_lt h), t, q) (refused_gives l reply own r))
 
   module _ (u : usable_of l ≡ true) where
-    pub own_more : shape_turn (rules.own_shape (action_for a)) l.held b ≡ more → x ≡ going_from l variant.More (Open a) (l.held + 1) →
+    pub own_more : shape_turn (rules.own_shape (action_for a)) l.held b ≡ more → x ≡ going_from l variant.More (Some a) (l.held + 1) →
         OwnDone l own b x (set own l.held b)
     unfolding rules.meets
     own_more t q reply =
         subst (DataAt l reply own b x reply (set own l.held b)) (sym is)
         (rw (length-take-le l.held own (le_of_lt h), t, q, ← take_next own l.held b h)
-        (going_gives l reply (set own l.held b) variant.More (Open a) (l.held + 1) u (depth.own_fits (action_for a) l.held b (own_held l is u) t) (own_nested l is u) (omega arith) refl))
+        (going_gives l reply (set own l.held b) variant.More (Some a) (l.held + 1) u (depth.own_fits (action_for a) l.held b (own_held l is u) t) (own_nested l is u) (omega arith) refl))
 
     pub own_ended : shape_turn (rules.own_shape (action_for a)) l.held b ≡ done → FinishedDone l a (set own l.held b) x →
         OwnDone l own b x (set own l.held b)
@@ -288,13 +291,10 @@ module _ (l : Link) (own : List ℕ) (b : ℕ) {x : Stepped} {a : Action} (is : 
 abbrev Ended : Link → List ℕ → Stepped → (Answer → Stepped) → Action → Type 0
 Ended l own x f a = x ≡ f (told_by a l.held own) → FinishedDone l a own x
 
-pub nested_at_lem : (n : ℕ) {s r : Target} → s ≡ r → n < nest_room (Open (Address s)) → n < nest_room (Open (Address r))
-nested_at_lem n is h = subst (λ (s : Target). n < nest_room (Open (Address s))) is h
-
 abbrev quietly : Link → Answer → Stepped
-quietly l n = going_from l n Quiet 0
+quietly l n = going_from l n None 0
 
-placed : (l : Link) (own : List ℕ) {x : Stepped} → usable_of l ≡ true → (t : Target) → l.nested < nest_room (Open (Address t)) → Ended l own x (placed_from l t) (Address t)
+placed : (l : Link) (own : List ℕ) {x : Stepped} → usable_of l ≡ true → (t : Target) → l.nested < nest_room (Some (Address t)) → Ended l own x (placed_from l t) (Address t)
 unfolding rules.meets
 placed l own u Set low q reply = rw q (quiet_gives l reply own (told_by (Address Set) 0 own) u (omega arith) refl)
 placed l own u Execute low q reply = rw q (quiet_gives l reply own (told_by (Address Execute) 0 own) u (omega arith) refl)
@@ -325,17 +325,17 @@ module _ (l : Link) (own : List ℕ) {x : Stepped} {a : Action} where
         subst (Ended l own x (quietly l)) (sym is) (λ q reply.
         rw q (quiet_gives l reply own (variant.Block (l.held + 1)) u (omega arith) (answer_back (variant.Block (l.held + 1)) reply own (omega arith))))
 
-    pub address_ended : {t : Target} → a ≡ Address t → l.nested < nest_room (Open a) → Ended l own x (placed_from l t) a
+    pub address_ended : {t : Target} → a ≡ Address t → l.nested < nest_room (Some a) → Ended l own x (placed_from l t) a
     address_ended {t} is low =
-        subst (Ended l own x (placed_from l t)) (sym is) (placed l own u t (subst (λ (b : Action). l.nested < nest_room (Open b)) is low))
+        subst (Ended l own x (placed_from l t)) (sym is) (placed l own u t (subst (λ (b : Action). l.nested < nest_room (Some b)) is low))
 
 -- any data byte
-pub data_outside : (l : Link) (reply own : List ℕ) (b : ℕ) {x : Stepped} {left : List ℕ} → l.doing ≡ Quiet → ReplyByteDone l reply b x left → DataDone l reply own b x left own
+pub data_outside : (l : Link) (reply own : List ℕ) (b : ℕ) {x : Stepped} {left : List ℕ} → l.doing ≡ None → ReplyByteDone l reply b x left → DataDone l reply own b x left own
 data_outside l reply own b {x} {left} e g = subst (DataAt l reply own b x left own) (sym e) (g own)
 
 -- a raw byte
 module _ (l : Link) (reply own : List ℕ) (raw : ℕ) where
-  pub at_stopped : usable_of l ≡ false → StepDone l reply own raw (record { answer = variant.Refused 7; link = l }) reply own
+  pub at_stopped : usable_of l ≡ false → StepDone l reply own raw (record { answer = variant.Refused Stopped; link = l }) reply own
   unfolding rules.step reply_after own_after
   at_stopped u = record {
     answer = rw u;
@@ -347,28 +347,33 @@ module _ (l : Link) (reply own : List ℕ) (raw : ℕ) where
     stops = λ n runs e. absurd (runs (rw u));
   }
 
-  -- what a live link gives is what `step` promises
-  live : {p : Piece} {x : Stepped} {reply-left own-left : List ℕ} → usable_of l ≡ true → piece_of l.escape raw ≡ p →
-      Met l reply (piece_lent own (doing_of l own) p) (rules.piece_seen (nest_of l.nested) (doing_of l own) p) x reply-left own-left → StepDone l reply own raw x reply-left own-left
+  -- what a usable link gives is what `step` promises
+  pub at_usable : {x : Stepped} {reply-left own-left : List ℕ} → usable_of l ≡ true → ReadDone l reply own raw x reply-left own-left → StepDone l reply own raw x reply-left own-left
   unfolding rules.step rules.look reply_after own_after
-  live u e g = record {
-    answer = rw (u, e) (ap (λ (s : rules.Step). s.report) g.step_is);
-    answer_is = rw (u, e) g.answer_is;
-    next = rw (u, e) (ap (λ (s : rules.Step). s.next) g.step_is);
-    reply_bytes = rw (u, e) g.reply_bytes;
-    own_bytes = rw (u, e) g.own_bytes;
-    kept = rw u (λ k. let z : ◌≡◌ {A = ℕ} 0 1 = cc in absurd (omega arith));
+  at_usable u g = record {
+    answer = rw u (ap (λ (s : rules.Step). s.report) g.step_is);
+    answer_is = rw u g.answer_is;
+    next = rw u (ap (λ (s : rules.Step). s.next) g.step_is);
+    reply_bytes = rw u g.reply_bytes;
+    own_bytes = rw u g.own_bytes;
+    kept = rw u (λ k. cc);
     stops = λ n _ r. g.stops n r;
   }
 
-  module _ {x : Stepped} (u : usable_of l ≡ true) where
-    pub at_pending : piece_of l.escape raw ≡ pending → x ≡ paused_from l → StepDone l reply own raw x reply own
+  module _ {x : Stepped} where
+    pub read_pending : usable_of l ≡ true → piece_of l.escape raw ≡ pending → x ≡ paused_from l → ReadDone l reply own raw x reply own
     unfolding rules.meets
-    at_pending e q = live u e (rw q (paused_gives l reply own u))
+    read_pending u e q = rw (e, q) (paused_gives l reply own u)
 
-    pub at_mark : {m : ℕ} → piece_of l.escape raw ≡ mark m → MarkDone l m x → StepDone l reply own raw x reply own
-    at_mark e g = live u e (g reply own)
+    pub read_mark : {m : ℕ} → piece_of l.escape raw ≡ mark m → MarkDone l m x → ReadDone l reply own raw x reply own
+    read_mark e g = rw e (g reply own)
 
-    pub at_data : {b : ℕ} {reply-left own-left : List ℕ} → piece_of l.escape raw ≡ data_byte b → DataDone l reply own b x reply-left own-left →
-        StepDone l reply own raw x reply-left own-left
-    at_data e g = live u e g
+    module _ {b : ℕ} {reply-left own-left : List ℕ} where
+      pub read_data : piece_of l.escape raw ≡ data_byte b → DataDone l reply own b x reply-left own-left → ReadDone l reply own raw x reply-left own-left
+      read_data e g = rw e g
+
+      pub at_data : usable_of l ≡ true → piece_of l.escape raw ≡ data_byte b → DataDone l reply own b x reply-left own-left → StepDone l reply own raw x reply-left own-left
+      at_data u e g = at_usable u (read_data e g)
+
+    pub at_pending : usable_of l ≡ true → piece_of l.escape raw ≡ pending → x ≡ paused_from l → StepDone l reply own raw x reply own
+    at_pending u e q = at_usable u (read_pending u e q)

@@ -1,5 +1,6 @@
 -- What the parts of a step promise.
-use Rattle.std.specs.Prelude.{ℕ, ◌+◌, ◌*◌, ◌≡◌, false, List, take}
+use Rattle.std.specs.Prelude.{ℕ, ◌+◌, ◌*◌, ◌≡◌, false, List, take, None, Result, Ok, Err}
+use Rattle.serial_rules.specs.Escape.{piece_of}
 use Rattle.serial_rules.specs.Fields.{at}
 use Rattle.serial_rules.specs.Link as rules
 use Rattle.serial_rules.specs.Nest.{nest_of}
@@ -8,19 +9,24 @@ use Rattle.actions.specs.declared.Target.{Target}
 use Rattle.actions.specs.declared.Target.TheVariants.{Set, Execute, Load, Save}
 use Rattle.actions.specs.declared.Action.{Action}
 use Rattle.actions.specs.declared.Action.TheVariants.{Error, Event, Address, Block}
-use Rattle.link.specs.declared.Doing.TheVariants.{Quiet}
+use Rattle.refusal.specs.declared.Refusal.{Refusal}
 use Rattle.link.specs.declared.Link.{Link}
 use Rattle.answers.specs.declared.Answer.{Answer}
 use Rattle.answers.specs.declared.Answer.TheVariants as variant
 use Rattle.link.specs.declared.Stepped.{Stepped}
-use Rattle.link.specs.View.{wait_for, doing_for, view_of, token_lent, doing_lent, stopped_from}
-use Rattle.link.specs.Parts.{going_from, nesting_from, seen_step}
+use Rattle.link.specs.View.{wait_for, doing_for, view_of, token_lent, doing_lent, piece_lent, stopped_from}
+use Rattle.link.specs.Parts.{refused_from, going_from, nesting_from, seen_step}
 use Rattle.answers.specs.Reports.{report_of, answer_for}
+
+-- what a step leaves, of what a part of it gives: a refusal leaves the record given, stopped
+abbrev pub stepped_from : Link → Result Stepped Refusal → Stepped
+stepped_from l (Ok s) = s
+stepped_from l (Err r) = refused_from l r
 
 -- what four address bytes leave, by what they are for: those of a load or save open it
 abbrev pub placed_from : Link → Target → Answer → Stepped
-placed_from l Set a = going_from l a Quiet 0
-placed_from l Execute a = going_from l a Quiet 0
+placed_from l Set a = going_from l a None 0
+placed_from l Execute a = going_from l a None 0
 placed_from l Load a = nesting_from l a (2 * l.nested + 1)
 placed_from l Save a = nesting_from l a (2 * l.nested + 2)
 
@@ -40,11 +46,17 @@ pub record LinkGives (link : Link) (step : rules.Step) (reply-after own-after : 
   pub answer_is : r.answer ≡ answer_for step.report
   pub reply_bytes : reply-left ≡ reply-after
   pub own_bytes : own-left ≡ own-after
-  pub stops : (n : ℕ) → r.answer ≡ variant.Refused n → r.link ≡ stopped_from link
+  pub stops : (n : Refusal) → r.answer ≡ variant.Refused n → r.link ≡ stopped_from link
 
 abbrev pub Met : Link → List ℕ → List ℕ → rules.Seen → Stepped → List ℕ → List ℕ → Type 0
 Met l reply own-after s r reply-left own-left =
     LinkGives l (seen_step (frame_of l reply) s) (token_lent reply (frame_of l reply) s.token) own-after r reply-left own-left
+
+-- a raw byte of a link that is usable
+abbrev pub ReadDone : Link → List ℕ → List ℕ → ℕ → Stepped → List ℕ → List ℕ → Type 0
+ReadDone l reply own raw r reply-left own-left =
+    let p = piece_of l.escape raw in
+    Met l reply (piece_lent own (doing_of l own) p) (rules.piece_seen (nest_of l.nested) (doing_of l own) p) r reply-left own-left
 
 -- a mark, whatever bytes are lent: any; one outside an action, by what it means
 abbrev pub MarkDone : Link → ℕ → Stepped → Type 0

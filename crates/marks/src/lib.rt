@@ -4,37 +4,36 @@
 mod tables;
 
 ghost use Rattle.std.specs.Prelude.{◌≡◌};
-ghost use Rattle.serial_rules.specs.Marks.{outward_class, inward_class, class_of};
-ghost use Rattle.marks.specs.Ways.{way_of};
+ghost use Rattle.serial_rules.specs.Marks.{outward_class, inward_class};
+ghost use Rattle.marks.specs.Classes.{outward_as, inward_as};
 
-// The two ways of a mark: outward, in a request, and inward, before an action.
-#[derive(Clone, Copy)]
-enum Way {
-    Outward,
-    Inward,
+// What a mark may be: it is not carried; outward, it starts a request; inward, it stands before an error, the Escape state, an event, an address, a
+// control block, the end of a transfer, execute, a load or a save.
+#[derive(Clone, Copy, PartialEq, Eq, Debug)]
+pub enum Class {
+    NotCarried,
+    Request,
+    Error,
+    State,
+    Event,
+    Address,
+    Block,
+    End,
+    Execute,
+    Load,
+    Save,
 }
 
-// The class of a mark outward: 1 starts a request, 0 is not carried.
-pub fn outward_class(mark: u8) -> u8
-    ensures { result ≡ outward_class mark }
+// The class of a mark outward, in a request.
+pub fn outward_class(mark: u8) -> Class
+    ensures { result ≡ outward_as (outward_class mark) }
 {
-    class_of(Way::Outward, mark)
+    tables::OUTWARD[mark as usize]
 }
 
-// The class of a mark inward: 1 an error, 2 the Escape state, 3 an event, 4 an address, 5 a control block, 6 the end of a transfer, 7 execute, 8 a
-// load, 9 a save, 0 not carried.
-pub fn inward_class(mark: u8) -> u8
-    ensures { result ≡ inward_class mark }
+// The class of a mark inward, before an action.
+pub fn inward_class(mark: u8) -> Class
+    ensures { result ≡ inward_as (inward_class mark) }
 {
-    class_of(Way::Inward, mark)
-}
-
-// The class of a mark, by the row of its way.
-fn class_of(way: Way, mark: u8) -> u8
-    ensures { result ≡ class_of (way_of way) mark }
-{
-    match way {
-        Way::Outward => tables::OUTWARD[mark as usize],
-        Way::Inward => tables::INWARD[mark as usize],
-    }
+    tables::INWARD[mark as usize]
 }

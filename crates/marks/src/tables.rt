@@ -1,72 +1,97 @@
-// What a mark may be, for each of its 256 byte values and each way: the classes that `outward_class` and `inward_class` answer.
+// What a mark may be, for each of its 256 byte values and each way.
+use crate::Class;
 
-pub const OUTWARD: [u8; 256] = [
+// Not carried; and outward the start of a request.
+const N: Class = Class::NotCarried;
+
+const Q: Class = Class::Request;
+
+// Inward an error, the Escape state, an event, an address, a control block, the end of a transfer, execute, a load and a save.
+const R: Class = Class::Error;
+
+const S: Class = Class::State;
+
+const V: Class = Class::Event;
+
+const A: Class = Class::Address;
+
+const B: Class = Class::Block;
+
+const E: Class = Class::End;
+
+const X: Class = Class::Execute;
+
+const L: Class = Class::Load;
+
+const W: Class = Class::Save;
+
+pub static OUTWARD: [Class; 256] = [
     // &00
-    1, 0, 1, 0, 1, 0, 1, 0, 1, 0, 1, 0, 1, 0, 1, 0,
+    Q, N, Q, N, Q, N, Q, N, Q, N, Q, N, Q, N, Q, N,
     // &10
-    1, 0, 1, 0, 1, 0, 1, 0, 0, 0, 0, 0, 0, 0, 0, 0,
+    Q, N, Q, N, Q, N, Q, N, N, N, N, N, N, N, N, N,
     // &20
-    1, 0, 1, 0, 1, 0, 1, 0, 1, 0, 1, 0, 1, 0, 1, 0,
+    Q, N, Q, N, Q, N, Q, N, Q, N, Q, N, Q, N, Q, N,
     // &30
-    1, 0, 1, 0, 1, 0, 1, 0, 0, 0, 0, 0, 0, 0, 0, 0,
+    Q, N, Q, N, Q, N, Q, N, N, N, N, N, N, N, N, N,
     // &40
-    1, 0, 1, 0, 1, 0, 1, 0, 1, 0, 1, 0, 1, 0, 1, 0,
+    Q, N, Q, N, Q, N, Q, N, Q, N, Q, N, Q, N, Q, N,
     // &50
-    1, 0, 1, 0, 1, 0, 1, 0, 0, 0, 0, 0, 0, 0, 0, 0,
+    Q, N, Q, N, Q, N, Q, N, N, N, N, N, N, N, N, N,
     // &60
-    1, 0, 1, 0, 1, 0, 1, 0, 1, 0, 1, 0, 1, 0, 1, 0,
+    Q, N, Q, N, Q, N, Q, N, Q, N, Q, N, Q, N, Q, N,
     // &70
-    1, 0, 1, 0, 1, 0, 1, 0, 0, 0, 0, 0, 0, 0, 0, 0,
+    Q, N, Q, N, Q, N, Q, N, N, N, N, N, N, N, N, N,
     // &80
-    0, 0, 0, 0, 0, 0, 0, 0, 0, 0, 0, 0, 0, 0, 0, 0,
+    N, N, N, N, N, N, N, N, N, N, N, N, N, N, N, N,
     // &90
-    0, 0, 0, 0, 0, 0, 0, 0, 0, 0, 0, 0, 0, 0, 0, 0,
+    N, N, N, N, N, N, N, N, N, N, N, N, N, N, N, N,
     // &A0
-    0, 0, 0, 0, 0, 0, 0, 0, 0, 0, 0, 0, 0, 0, 0, 0,
+    N, N, N, N, N, N, N, N, N, N, N, N, N, N, N, N,
     // &B0
-    0, 0, 0, 0, 0, 0, 0, 0, 0, 0, 0, 0, 0, 0, 0, 0,
+    N, N, N, N, N, N, N, N, N, N, N, N, N, N, N, N,
     // &C0
-    0, 0, 0, 0, 0, 0, 0, 0, 0, 0, 0, 0, 0, 0, 0, 0,
+    N, N, N, N, N, N, N, N, N, N, N, N, N, N, N, N,
     // &D0
-    0, 0, 0, 0, 0, 0, 0, 0, 0, 0, 0, 0, 0, 0, 0, 0,
+    N, N, N, N, N, N, N, N, N, N, N, N, N, N, N, N,
     // &E0
-    0, 0, 0, 0, 0, 0, 0, 0, 0, 0, 0, 0, 0, 0, 0, 0,
+    N, N, N, N, N, N, N, N, N, N, N, N, N, N, N, N,
     // &F0
-    0, 0, 0, 0, 0, 0, 0, 0, 0, 0, 0, 0, 0, 0, 0, 0,
+    N, N, N, N, N, N, N, N, N, N, N, N, N, N, N, N,
 ];
 
-pub const INWARD: [u8; 256] = [
+pub static INWARD: [Class; 256] = [
     // &00
-    1, 5, 5, 5, 5, 5, 5, 5, 5, 5, 5, 5, 5, 5, 5, 5,
+    R, B, B, B, B, B, B, B, B, B, B, B, B, B, B, B,
     // &10
-    5, 5, 5, 5, 5, 5, 5, 5, 5, 5, 5, 5, 5, 5, 5, 5,
+    B, B, B, B, B, B, B, B, B, B, B, B, B, B, B, B,
     // &20
-    5, 5, 5, 5, 5, 5, 5, 5, 5, 5, 5, 5, 5, 5, 5, 5,
+    B, B, B, B, B, B, B, B, B, B, B, B, B, B, B, B,
     // &30
-    5, 5, 5, 5, 5, 5, 5, 5, 5, 5, 5, 5, 5, 5, 5, 5,
+    B, B, B, B, B, B, B, B, B, B, B, B, B, B, B, B,
     // &40
-    5, 5, 5, 5, 5, 5, 5, 5, 5, 5, 5, 5, 5, 5, 5, 5,
+    B, B, B, B, B, B, B, B, B, B, B, B, B, B, B, B,
     // &50
-    5, 5, 5, 5, 5, 5, 5, 5, 5, 5, 5, 5, 5, 5, 5, 5,
+    B, B, B, B, B, B, B, B, B, B, B, B, B, B, B, B,
     // &60
-    5, 5, 5, 5, 5, 5, 5, 5, 5, 5, 5, 5, 5, 5, 5, 5,
+    B, B, B, B, B, B, B, B, B, B, B, B, B, B, B, B,
     // &70
-    5, 5, 5, 5, 5, 5, 5, 5, 5, 5, 5, 5, 5, 5, 5, 5,
+    B, B, B, B, B, B, B, B, B, B, B, B, B, B, B, B,
     // &80
-    2, 2, 2, 2, 2, 2, 2, 2, 2, 2, 2, 2, 2, 2, 2, 2,
+    S, S, S, S, S, S, S, S, S, S, S, S, S, S, S, S,
     // &90
-    3, 3, 3, 3, 3, 3, 3, 3, 3, 3, 3, 0, // &9B, the escape
-    3, 3, 3, 3,
+    V, V, V, V, V, V, V, V, V, V, V, N, // &9B, the escape
+    V, V, V, V,
     // &A0
-    0, 0, 0, 0, 0, 0, 0, 0, 0, 0, 0, 0, 0, 0, 0, 0,
+    N, N, N, N, N, N, N, N, N, N, N, N, N, N, N, N,
     // &B0
-    6, 6, 6, 6, 6, 6, 6, 6, 6, 6, 6, 6, 6, 6, 6, 6,
+    E, E, E, E, E, E, E, E, E, E, E, E, E, E, E, E,
     // &C0
-    4, 4, 4, 4, 4, 4, 4, 4, 4, 4, 4, 4, 4, 4, 4, 4,
+    A, A, A, A, A, A, A, A, A, A, A, A, A, A, A, A,
     // &D0
-    7, 7, 7, 7, 7, 7, 7, 7, 7, 7, 7, 7, 7, 7, 7, 7,
+    X, X, X, X, X, X, X, X, X, X, X, X, X, X, X, X,
     // &E0
-    8, 8, 8, 8, 8, 8, 8, 8, 8, 8, 8, 8, 8, 8, 8, 8,
+    L, L, L, L, L, L, L, L, L, L, L, L, L, L, L, L,
     // &F0
-    9, 9, 9, 9, 9, 9, 9, 9, 9, 9, 9, 9, 9, 9, 9, 9,
+    W, W, W, W, W, W, W, W, W, W, W, W, W, W, W, W,
 ];

@@ -1,7 +1,7 @@
 -- Plain bytes in the middle of a field need more: one law for each kind of field.
-use Prim.Native.Nat.{ℕ, ◌+◌, ◌-◌, ◌≤◌, ◌<◌}
+use Prim.Native.Nat.{ℕ, suc, ◌+◌, ◌-◌, ◌≤◌, ◌<◌}
 use native.Mathlib.Omega.{arith}
-use mathlib.Core.Path.{◌≡◌, refl, ◌∙◌}
+use mathlib.Core.Path.{◌≡◌, refl, ap, ◌∙◌}
 use mathlib.Core.Bool.{Bool, true, false, cond}
 use mathlib.Core.List.{List, [], ◌∷◌, ◌++◌, append_assoc, append-nil}
 use lib.Dec.{eqb, ltb}
@@ -9,11 +9,23 @@ use lib.ListN.{length, get_or, drop, length-append, get_or-append}
 use lib.Seq.{drop-append-le, get_or-append_seam}
 use borrow.Author.Tests.{lt-ltb, le-ltb, ltb-true, ltb-false, ne_eqb, eqb-true, eqb-false}
 use Rattle.serial_rules.specs.Call.{return}
-use Rattle.serial_rules.specs.Body.{more, string_turn, fixed_turn, name_turn, ended, body_turn, longest_body}
+use Rattle.serial_rules.specs.Body.{more, done, string_turn, fixed_turn, word_turn, find_turn, name_turn, ended, body_turn, longest_body}
 use Rattle.turns.specs.Plain.{plain, Plains, none, one}
 use Rattle.turns.proofs.Plain.{no_return}
 use Rattle.middles.specs.Ahead.{word_ahead, find_ahead, file_ahead, ahead_in}
-use Rattle.bodies.proofs.Bytes.{word_rest, find_rest, ended_last}
+use Rattle.bodies.proofs.Bytes.{ended_last}
+
+-- the rules of OSWORD's and OSFIND's bodies behind their first bytes
+word_rest : (s : List ℕ) (b : ℕ) → 2 ≤ length s → word_turn s b ≡ fixed_turn (length s - 2) (get_or s 1 0)
+word_rest [] b e = absurd (omega arith)
+word_rest (a ∷ []) b e = absurd (omega arith)
+word_rest (a ∷ k ∷ s) b e = ap (λ (n : ℕ). fixed_turn n k) (omega arith)
+
+find_rest : (s : List ℕ) (b : ℕ) → 1 ≤ length s → find_turn s b ≡ cond (eqb (get_or s 0 0) 0) done (string_turn (length s - 1) b)
+find_rest [] b e = absurd (omega arith)
+find_rest (a ∷ s) b e =
+    let h : length s ≡ suc (length s) - 1 = omega arith in
+    ap (λ (n : ℕ). cond (eqb a 0) done (string_turn n b)) h
 
 -- Behind the bytes s of a body of this code n more plain bytes need more, and leave the count below the code's longest body; where there are
 -- some, it is below that already.

@@ -7,6 +7,7 @@ ghost use Rattle.middles.specs.Ahead.{word_ahead, find_ahead, file_ahead, ahead_
 use strings::Text;
 
 // How many bytes behind s stand in the middle of their field: they need more, whatever they are but an escape or a return.
+#[tactic(auto, unfolding(crate::specs::Ahead::ahead_in))]
 pub fn ahead(code: u8, s: &[u8]) -> usize
     ensures { result ≡ ahead_in code s.now }
 {
@@ -27,36 +28,27 @@ pub fn ahead(code: u8, s: &[u8]) -> usize
 fn up_to(n: usize, last: usize) -> usize
     ensures { result ≡ last - n }
 {
-    if n < last {
-        return last - n;
-    }
-    0
+    last.saturating_sub(n)
 }
 
 // In OSWORD's block.
 fn word_ahead(s: &[u8]) -> usize
     ensures { result ≡ word_ahead s.now }
 {
-    let n = s.len();
-    if n < 2 {
-        return 0;
+    match s {
+        [_, length, block @ ..] => up_to(block.len(), *length as usize),
+        _ => 0,
     }
-    let last = s[1] as usize;
-    up_to(n - 2, last)
 }
 
 // In the string of an OSFIND that opens.
 fn find_ahead(s: &[u8]) -> usize
     ensures { result ≡ find_ahead s.now }
 {
-    let n = s.len();
-    if n == 0 {
-        return 0;
+    match s {
+        [] | [0, ..] => 0,
+        _ => up_to(s.len(), Text::LIMIT + 1),
     }
-    if s[0] == 0 {
-        return 0;
-    }
-    up_to(n, Text::LIMIT + 1)
 }
 
 // In OSFILE's block, and in its name.
@@ -65,10 +57,10 @@ fn file_ahead(s: &[u8]) -> usize
 {
     let n = s.len();
     if n < Text::FILE_BLOCK {
-        return Text::FILE_BLOCK - n;
+        Text::FILE_BLOCK - n
+    } else if bodies::name_ended(&s[Text::FILE_BLOCK..]) {
+        0
+    } else {
+        up_to(n, Text::LIMIT + Text::FILE_BLOCK)
     }
-    if bodies::name_ended(&s[Text::FILE_BLOCK..]) {
-        return 0;
-    }
-    up_to(n, Text::LIMIT + Text::FILE_BLOCK)
 }

@@ -23,9 +23,6 @@ use Rattle.notes.specs.declared.Log.{Log}
 use Rattle.notes.specs.Notes.{Given, given, nothing, run_note, notes_in, noted, longest_run, transfer_number, adds, adds_all}
 use Rattle.notes.specs.Logs.{fresh, Lays, Holds, data_in, most_count, countable, run_goes_on, Wrote, noted_in, started_in, grown_by, Unchanged, Noted, BlockDone, LoadedDone, Logs, Added, AddDone, joins, joinable, JoinedDone, AddRunDone}
 
-pub not_both : {t : Bool} → t ≡ true → t ≡ false → ⊥
-not_both on off = let z : ◌≡◌ {A = ℕ} 0 1 = cc in omega arith
-
 -- A write at a place is one of a part that was lent in turn.
 pub wrote_part : {w out back : List ℕ} {n : ℕ} (at : ℕ) → at ≤ length out → Put w (take (length out - at) (drop at out)) back n
     → Wrote at w out (take at out ++ (back ++ drop (length out - at) (drop at out)))
@@ -41,19 +38,6 @@ wrote_part {w} {out} {back} {n} at h p =
       bytes = λ _. e;
       full = λ k. absurd (omega arith);
     }
-
--- nothing is written where there is no room
-pub wrote_none : {w out : List ℕ} (at : ℕ) → length out < at + length w → Wrote at w out out
-wrote_none at h = record { size = refl; bytes = λ k. absurd (omega arith); full = λ _. refl }
-
--- one byte
-pub wrote_one : {out : List ℕ} (at b : ℕ) → at < length out → Wrote at (b ∷ []) out (set out at b)
-wrote_one {out} at b h = record { size = length-set out at b; bytes = λ k. sets-eq (b ∷ []) out at k ∙ append_assoc (take at out) (b ∷ []) (drop (at + 1) out); full = λ k. absurd (omega arith) }
-
--- five bytes stored at the start
-pub set_five : (out : List ℕ) (a b c d e : ℕ) → 5 ≤ length out
-    → Put (a ∷ b ∷ c ∷ d ∷ e ∷ []) out (set (set (set (set (set out 0 a) 1 b) 2 c) 3 d) 4 e) 5
-set_five out a b c d e h = record { count = refl; bytes = sets-eq (a ∷ b ∷ c ∷ d ∷ e ∷ []) out 0 (omega arith); room = h }
 
 -- A write behind w, in the place of v, which is not longer.
 lays_wrote : (w v : List ℕ) {u out mid left : List ℕ} (at : ℕ) → Lays (w ++ v) out mid → at ≡ length w → length v ≤ length u → Wrote at u mid left → Lays (w ++ u) out left
@@ -264,12 +248,6 @@ run_holds {log} {raw = raw} on d g notes₀ content₀ h =
     let fits : log.run + n ≤ longest_run = omega (arith, m.0, f.2) in
     rw (d.grew, adds_run (take n raw) g (omega (arith, size, fits, h.run)), size) (joined_more n size f.1 fits d.note d.bytes g notes₀ content₀ h)
 
--- all bytes written
-pub put_all : (l : List ℕ) {out left : List ℕ} {i : ℕ} → length l ≤ i → i ≤ length l → Put (take i l) out left i → Put l out left (length l)
-put_all l {out} {left} {i} all most p =
-    let e : i ≡ length l = omega arith in
-    rw e at (put_as (take_all i l all) p)
-
 -- one load byte
 load_added : {log r : Log} {b : ℕ} {notes content notes-left content-left : List ℕ} → LoadedDone log b notes content r notes-left content-left
     → Adds log (rules.loaded b) notes content r notes-left content-left
@@ -304,11 +282,6 @@ logs_hold (rules.error n t) d = none_added d
 logs_hold rules.restart d = none_added d
 logs_hold (rules.refusal n) d = none_added d
 
--- the end of a load or save is noted by its number
-pub ended_number : (save : Bool) → cond save 1 0 ≡ transfer_number (transfer_for save)
-ended_number true = refl
-ended_number false = refl
-
 -- what the tests say of a control block and of load data
 pub block_counts : (log : Log) {a : Answer} (own : ℕ) {n : ℕ} → countable log a own ≡ true → a ≡ variant.Block n → (log.noted < most_count) × (n ≤ own) × (n < 256) × (log.stored + n ≤ most_count)
 block_counts log {a} own {n} on e =
@@ -319,18 +292,3 @@ pub load_counts : (log : Log) {a : Answer} (own : ℕ) {b : ℕ} → countable l
 load_counts log {a} own {b} on e =
     let f = count_facts log (variant.Loaded b) own (subst (λ (x : Answer). countable log x own ≡ true) e on) in
     (f.0, omega (arith, f.3))
-
--- What `add` and `add_run` promise, by their test.
-module _ {log r : Log} {a : Answer} {own notes content notes-left content-left : List ℕ} where
-  pub add_counted : countable log a (length own) ≡ true → Added log a own notes content r notes-left content-left → AddDone log a own notes content r notes-left content-left
-  add_counted on d = record { adds_it = λ _. d; beyond = λ off. absurd (not_both on off) }
-
-pub add_beyond : {log : Log} {a : Answer} {own notes content : List ℕ} → countable log a (length own) ≡ false → AddDone log a own notes content log notes content
-add_beyond off = record { adds_it = λ on. absurd (not_both on off); beyond = λ _. (refl, refl, refl) }
-
-pub run_counted : {log r : Log} {raw notes content notes-left content-left : List ℕ} → joinable log (length raw) ≡ true → JoinedDone log raw notes content r notes-left content-left
-    → AddRunDone log raw notes content r notes-left content-left
-run_counted on d = record { adds_it = λ _. d; beyond = λ off. absurd (not_both on off) }
-
-pub run_beyond : {log : Log} {raw notes content : List ℕ} → joinable log (length raw) ≡ false → AddRunDone log raw notes content log notes content
-run_beyond off = record { adds_it = λ on. absurd (not_both on off); beyond = λ _. (refl, refl, refl) }

@@ -2,7 +2,7 @@
 // room, and counted where they have none, so that the same reader measures what it needs.
 #![tactic(auto)]
 
-ghost use Rattle.std.specs.Prelude.{◌+◌, ◌*◌, ◌-◌, ◌≤◌, ◌<◌, ◌≡◌, true, cond, [], ◌∷◌, length, take};
+ghost use Rattle.std.specs.Prelude.{◌+◌, ◌*◌, ◌-◌, ◌≤◌, ◌<◌, ◌≡◌, true, [], ◌∷◌, length, take};
 ghost use Rattle.actions.specs.Actions.{target_for};
 ghost use Rattle.escape.specs.Put.{Put};
 ghost use Rattle.notes.specs.Notes.{longest_run, address_kind};
@@ -12,7 +12,7 @@ use actions::Target;
 use answers::Answer;
 
 // How many notes were made, how many bytes of data there were, and how many load bytes the last note counts, 0 where it is of something else.
-#[derive(Clone, Copy)]
+#[derive(Clone, Copy, PartialEq, Eq, Debug)]
 pub struct Log {
     pub noted: usize,
     pub stored: usize,
@@ -25,9 +25,6 @@ impl Log {
 
     // The most load bytes of a note.
     pub const RUN: usize = 255;
-
-    // The largest count.
-    const MOST: usize = 0xFFFFFFFFFFFFFFFF;
 
     // Nothing noted so far.
     pub fn new() -> Log
@@ -62,28 +59,20 @@ impl Log {
     }
 
     // Whether the counts have room for an answer, whose data are among so many own bytes.
+    #[tactic(auto, unfolding(crate::specs::Logs::countable))]
     fn counts(self, answer: Answer, own: usize) -> bool
         ensures { result ≡ countable self answer own }
     {
         let n = data_in(answer);
-        if self.noted < Log::MOST {
-            if n <= own {
-                if n < 256 {
-                    return self.stored <= Log::MOST - n;
-                }
-            }
-        }
-        false
+        self.noted < usize::MAX && n <= own && n < 256 && self.stored <= usize::MAX - n
     }
 
     // Whether load bytes can join the last note, and the counts have room for so many.
+    #[tactic(auto, unfolding(crate::specs::Logs::joinable))]
     fn joins(self, n: usize) -> bool
         ensures { result ≡ joinable self n }
     {
-        if self.goes_on() {
-            return self.stored <= Log::MOST - n;
-        }
-        false
+        self.goes_on() && self.stored <= usize::MAX - n
     }
 
     fn added(self, answer: Answer, own: &[u8], notes: &mut [u8], content: &mut [u8]) -> Log
@@ -91,40 +80,37 @@ impl Log {
         ensures { Added self answer own.now notes.old content.old result notes.new content.new }
     {
         match answer {
-            Answer::More => self,
-            Answer::Character(b) => self.note(1, b, 0, 0, 0, notes),
-            Answer::Reply(_) => self,
-            Answer::EscapeState(on) => self.note(2, flag_byte(on), 0, 0, 0, notes),
-            Answer::Event { y, x, a } => self.note(3, y, x, a, 0, notes),
+            Answer::Character(b) => self.note([1, b, 0, 0, 0], notes),
+            Answer::EscapeState(on) => self.note([2, u8::from(on), 0, 0, 0], notes),
+            Answer::Event { y, x, a } => self.note([3, y, x, a, 0], notes),
             Answer::Address {
                 target,
                 b3,
                 b2,
                 b1,
                 b0,
-            } => self.note(address_kind(target), b3, b2, b1, b0, notes),
+            } => self.note([address_kind(target), b3, b2, b1, b0], notes),
             Answer::Block(n) => self.block(n, own, notes, content),
             Answer::Loaded(b) => self.loaded(b, notes, content),
-            Answer::Ended { save } => self.note(14, flag_byte(save), 0, 0, 0, notes),
-            Answer::Error {
-                number: _,
-                length: _,
-            } => self,
-            Answer::Restart => self,
-            Answer::Refused(_) => self,
+            Answer::Ended { save } => self.note([14, u8::from(save), 0, 0, 0], notes),
+            Answer::More
+            | Answer::Reply(_)
+            | Answer::Error { .. }
+            | Answer::Restart
+            | Answer::Refused(_) => self,
         }
     }
 
     // One note more.
-    fn note(self, kind: u8, first: u8, second: u8, third: u8, fourth: u8, notes: &mut [u8]) -> Log
+    fn note(self, note: [u8; Log::NOTE], notes: &mut [u8]) -> Log
         requires { self.noted < most_count }
-        ensures { (result ≡ noted_in self) × Wrote (5 * self.noted) (kind ∷ first ∷ second ∷ third ∷ fourth ∷ []) notes.old notes.new }
+        ensures { (result ≡ noted_in self) × Wrote (5 * self.noted) note notes.old notes.new }
     {
-        put_note(self.noted, kind, first, second, third, fourth, notes);
+        put_note(self.noted, note, notes);
         Log {
             noted: self.noted + 1,
-            stored: self.stored,
             run: 0,
+            ..self
         }
     }
 
@@ -133,7 +119,7 @@ impl Log {
         requires { (self.noted < most_count) × (n ≤ length own.now) × (n < 256) × (self.stored + n ≤ most_count) }
         ensures { BlockDone self (take n own.now) notes.old content.old result notes.new content.new }
     {
-        put_note(self.noted, 9, n as u8, 0, 0, 0, notes);
+        put_note(self.noted, [9, n as u8, 0, 0, 0], notes);
         put_data(self.stored, &own[..n], content);
         Log {
             noted: self.noted + 1,
@@ -151,7 +137,7 @@ impl Log {
         if self.goes_on() {
             return self.grown(1, notes);
         }
-        put_note(self.noted, 13, 1, 0, 0, 0, notes);
+        put_note(self.noted, [13, 1, 0, 0, 0], notes);
         Log {
             noted: self.noted + 1,
             stored: self.stored + 1,
@@ -160,15 +146,11 @@ impl Log {
     }
 
     // Whether the last note is of load data and counts one byte more.
+    #[tactic(auto, unfolding(crate::specs::Logs::run_goes_on))]
     fn goes_on(self) -> bool
         ensures { result ≡ run_goes_on self }
     {
-        if self.run != 0 {
-            if self.noted != 0 {
-                return self.run < Log::RUN;
-            }
-        }
-        false
+        self.run != 0 && self.noted != 0 && self.run < Log::RUN
     }
 
     // The load bytes at the start of `raw`, as far as the last note counts.
@@ -188,11 +170,11 @@ impl Log {
         ensures { (result ≡ grown_by self n) × Wrote (5 * (self.noted - 1)) (13 ∷ (self.run + n) ∷ 0 ∷ 0 ∷ 0 ∷ []) notes.old notes.new }
     {
         let run = self.run + n;
-        put_note(self.noted - 1, 13, run as u8, 0, 0, 0, notes);
+        put_note(self.noted - 1, [13, run as u8, 0, 0, 0], notes);
         Log {
-            noted: self.noted,
             stored: self.stored + n,
-            run: run,
+            run,
+            ..self
         }
     }
 }
@@ -202,35 +184,10 @@ fn data_in(answer: Answer) -> usize
     ensures { result ≡ data_in answer }
 {
     match answer {
-        Answer::More => 0,
-        Answer::Character(_) => 0,
-        Answer::Reply(_) => 0,
-        Answer::EscapeState(_) => 0,
-        Answer::Event { y: _, x: _, a: _ } => 0,
-        Answer::Address {
-            target: _,
-            b3: _,
-            b2: _,
-            b1: _,
-            b0: _,
-        } => 0,
         Answer::Block(n) => n,
         Answer::Loaded(_) => 1,
-        Answer::Ended { save: _ } => 0,
-        Answer::Error {
-            number: _,
-            length: _,
-        } => 0,
-        Answer::Restart => 0,
-        Answer::Refused(_) => 0,
+        _ => 0,
     }
-}
-
-// The byte of an Escape state, and of a save.
-fn flag_byte(on: bool) -> u8
-    ensures { result ≡ cond on 1 0 }
-{
-    if on { 1 } else { 0 }
 }
 
 // The kind of the note of four address bytes, by what they are for.
@@ -246,31 +203,12 @@ pub fn address_kind(target: Target) -> u8
 }
 
 // Writes the note behind so many, where there is room.
-fn put_note(index: usize, kind: u8, first: u8, second: u8, third: u8, fourth: u8, notes: &mut [u8])
-    ensures { Wrote (5 * index) (kind ∷ first ∷ second ∷ third ∷ fourth ∷ []) notes.old notes.new }
+fn put_note(index: usize, note: [u8; Log::NOTE], notes: &mut [u8])
+    ensures { Wrote (5 * index) note notes.old notes.new }
 {
     if index < notes.len() / Log::NOTE {
-        put_five(
-            kind,
-            first,
-            second,
-            third,
-            fourth,
-            &mut notes[Log::NOTE * index..],
-        );
+        put(&note, &mut notes[Log::NOTE * index..]);
     }
-}
-
-// Writes five bytes.
-fn put_five(kind: u8, first: u8, second: u8, third: u8, fourth: u8, out: &mut [u8])
-    requires { 5 ≤ length out.old }
-    ensures { Put (kind ∷ first ∷ second ∷ third ∷ fourth ∷ []) out.old out.new 5 }
-{
-    out[0] = kind;
-    out[1] = first;
-    out[2] = second;
-    out[3] = third;
-    out[4] = fourth;
 }
 
 // Writes one byte at a place, where there is room.
@@ -286,21 +224,15 @@ fn put_byte(at: usize, b: u8, content: &mut [u8])
 fn put_data(at: usize, bytes: &[u8], content: &mut [u8])
     ensures { Wrote at bytes.now content.old content.new }
 {
-    if at <= content.len() {
-        if bytes.len() <= content.len() - at {
-            put_bytes(bytes, &mut content[at..]);
-        }
+    if at <= content.len() && bytes.len() <= content.len() - at {
+        put(bytes, &mut content[at..]);
     }
 }
 
-// Writes bytes, for which there is room.
-fn put_bytes(bytes: &[u8], out: &mut [u8])
+// Writes bytes at the start, for which there is room.
+fn put(bytes: &[u8], out: &mut [u8])
     requires { length bytes.now ≤ length out.old }
     ensures { Put bytes.now out.old out.new (length bytes.now) }
 {
-    let mut i: usize = 0;
-    while i < bytes.len() {
-        out[i] = bytes[i];
-        i += 1;
-    }
+    out[..bytes.len()].copy_from_slice(bytes);
 }

@@ -45,3 +45,6 @@ part_none s = record { start_is = omega arith; length_is = refl; bytes_are = ref
 -- all the bytes behind the first k
 pub whole_part : {s : List ℕ} {k : ℕ} {p : Part} → PartDone s k (take (length s) (drop k s)) p → PartDone s k (drop k s) p
 whole_part {s} {k} {p} d = subst (λ (b : List ℕ). PartDone s k b p) (take_all (length s) (drop k s) (omega (arith, length-drop k s))) d
+
+-- what the fields of a request and of a reply need
+pub ruleset fields = (part_none, whole_part)

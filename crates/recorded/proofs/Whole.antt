@@ -1,4 +1,5 @@
 -- The whole recorded reply: the laws of its bytes, of a turn of the reader, and of the two runs.
+use Rattle.std.specs.Prelude.{Option, Some, None, Result}
 use Prim.Native.Nat.{ℕ, suc, ◌+◌, ◌-◌, ◌*◌, ◌/◌, ◌≤◌, ◌<◌, min}
 use native.Mathlib.Nat.{le_of_lt}
 use native.Mathlib.Omega.{arith}
@@ -7,20 +8,19 @@ use mathlib.Core.Bool.{Bool, true, false, cond, not, ◌&&◌}
 use mathlib.Core.List.{List, [], ◌∷◌, ◌++◌, append-nil}
 use lib.Dec.{eqb, leb, ltb}
 use lib.ListN.{length, take, drop, get_or, set, length-append, length-take, length-drop, length-set}
-use lib.Seq.{length-take-le, take_all, take-length, drop-length, take_at, sets, sets-eq, length-sets}
+use lib.Seq.{length-take-le, take_all, take_at, sets, sets-eq, length-sets}
 use borrow.Author.Tests.{lt-leb, le-leb, leb-true, ltb-true, ltb-false, eqb-false, ne_eqb}
 use Rattle.escape.specs.Units as units
 use Rattle.escape.specs.Units.{unit_at}
 use Rattle.escape.proofs.Units.{data_near, mark_near}
-use Rattle.escape.specs.Put.{over, Put}
-use Rattle.escape.proofs.Laws.{put_none, put_next, put_length}
+use Rattle.escape.specs.Put.{over}
 use Rattle.serial_rules.specs.Body.{Turn, more, done, refused}
 use Rattle.serial_rules.specs.Reply as rules-reply
 use Rattle.serial_rules.specs.Reply.{Kind, Shape, fixed, line, text, shape_of, shape_turn, longest}
 use Rattle.serial_rules.specs.Link as rules
 use Rattle.serial_rules.specs.Session.{inside}
 use Rattle.serial_rules.specs.Record.{Outcome, Recorded, recording, give, recorded, recorded_from, recorded_reply}
-use Rattle.serial_rules.proofs.Lent.{take_next, take_behind}
+use Rattle.serial_rules.proofs.Lent.{take_next}
 use Rattle.serial_rules.proofs.Nest.{nest_none}
 use Rattle.serial_rules.proofs.Parts.{length_snoc}
 use Rattle.serial_rules.proofs.Shapes.{choice}
@@ -30,6 +30,10 @@ use Rattle.turns.proofs.Plain.{done_plains, done_most, part_sets}
 use Rattle.shapes.specs.Ahead.{ahead_of}
 use Rattle.kind.specs.Kinds.{kind_for, reply_lent}
 use Rattle.kind.specs.declared.CallKind.{CallKind}
+use Rattle.refusal.specs.declared.Refusal.{Refusal}
+use Rattle.refusal.specs.declared.Refusal.TheVariants.{NoRoom}
+use Rattle.refusal.specs.Refusals.{number}
+use Rattle.refusal.proofs.Refusals.{refusal_back}
 use Rattle.answers.specs.declared.Answer.{Answer}
 use Rattle.answers.specs.declared.Answer.TheVariants as variant
 use Rattle.link.specs.declared.Link.{Link}
@@ -44,8 +48,6 @@ use Rattle.notes.proofs.Laws.{holds_nothing}
 use Rattle.action_bytes.specs.Walk.{on, halt, Act}
 use Rattle.action_bytes.specs.Parts.{outcome_of, answer_of, Ends}
 use Rattle.action_bytes.proofs.Walk.{give_give}
-use Rattle.transfers.specs.declared.End as code-end
-use Rattle.transfers.specs.declared.End.TheVariants.{On, Halt}
 use Rattle.transfers.specs.declared.Walked.{Walked}
 use Rattle.transfers.specs.Parts.{went_of, EndedWell, Gives, ActDone}
 use Rattle.transfers.proofs.Parts.{gives_none, gives_then, gives_later}
@@ -98,46 +100,16 @@ reply_ahead k n some = go (shape_of k) (reply_shape k)
     go line _ = rw (ne_eqb n 0 (λ e. omega arith))
     go text e = absurd e
 
--- The first i of the bytes, n at most, were copied.
-pub record Putting (bytes : List ℕ) (n : ℕ) (out now : List ℕ) (i : ℕ) : Type 0 where
-  pub below : i ≤ n
-  pub within : i ≤ length bytes
-  pub put : Put (take i bytes) out now i
-
-pub puts_none : {bytes : List ℕ} {n : ℕ} {out : List ℕ} → Putting bytes n out out 0
-puts_none = record { below = omega arith; within = omega arith; put = put_none }
-
-module _ {bytes : List ℕ} {n : ℕ} {out now : List ℕ} {i : ℕ} (p : Putting bytes n out now i) where
-  pub puts_next : i < n → i < length bytes → length bytes ≤ length out → Putting bytes n out (set now i (get_or bytes i 0)) (i + 1)
-  puts_next h k room = record { below = omega arith; within = omega arith; put = put_next bytes k (omega arith) p.put }
-
-  pub puts_size : length now ≡ length out
-  puts_size = put_length p.put
-
-  -- all of the first n, or all that there are
-  pub puts_all : n ≤ i → now ≡ over (take n bytes) out
-  puts_all h = let e : i ≡ n = omega (arith, p.below) in p.put.bytes ∙ ap (λ (m : ℕ). over (take m bytes) out) e
-
-  pub puts_whole : length bytes ≤ i → now ≡ over (take n bytes) out
-  puts_whole h =
-      let e : take i bytes ≡ take n bytes = take_all i bytes h ∙ sym (take_all n bytes (omega (arith, p.below))) in
-      p.put.bytes ∙ ap (λ (l : List ℕ). over l out) e
-
 -- an error's number and text
-pub error_put : (n k : ℕ) (own out : List ℕ) {back : List ℕ} → 1 ≤ length out
-    → back ≡ over (take k (take (length own - 1) (drop 1 own))) (take (length (set out 0 n) - 1) (drop 1 (set out 0 n)))
-    → take 1 (set out 0 n) ++ (back ++ drop (length (set out 0 n) - 1) (drop 1 (set out 0 n))) ≡ over (n ∷ take k (drop 1 own)) out
-error_put n k own [] some e = absurd (omega arith)
-error_put n k own (x ∷ out) some e =
-    let m : suc (length out) - 1 ≡ length out = omega arith in
-    ap (λ (l : List ℕ). n ∷ (l ++ drop (suc (length out) - 1) out)) e ∙ rw (take_behind 1 own, m, take-length out, drop-length out, append-nil)
-
-pub error_size : (n k : ℕ) (own out : List ℕ) {back : List ℕ} → 1 ≤ length out → length own ≤ length out
-    → back ≡ over (take k (take (length own - 1) (drop 1 own))) (take (length (set out 0 n) - 1) (drop 1 (set out 0 n)))
-    → length (take 1 (set out 0 n) ++ (back ++ drop (length (set out 0 n) - 1) (drop 1 (set out 0 n)))) ≡ length out
-error_size n k own out some fits e =
-    let short : length (take k (drop 1 own)) ≤ length own - 1 = rw (length-take k (drop 1 own), length-drop 1 own) (omega arith) in
-    rw (error_put n k own out some e, length-append, length-drop) (omega arith)
+pub error_put : (n k a b : ℕ) (own out : List ℕ) {back : List ℕ} → length own ≡ suc a → length out ≡ suc b
+    → back ≡ over (take k (take a (drop 1 own))) (take b (drop 1 (set out 0 n)))
+    → take 1 (set out 0 n) ++ (back ++ drop b (drop 1 (set out 0 n))) ≡ over (n ∷ take k (drop 1 own)) out
+error_put n k a b own [] e f h = absurd (omega arith)
+error_put n k a b own (x ∷ out) e f h =
+    let text : take a (drop 1 own) ≡ drop 1 own = take_all a (drop 1 own) (simp length-drop (omega arith)) in
+    let all : take b out ≡ out = take_all b out (omega arith) in
+    let none : drop b out ≡ [] = lib.ListN.drop_of_length-le out (omega arith) in
+    ap (λ (l : List ℕ). n ∷ (l ++ drop b out)) h ∙ rw (text, all, none, append-nil)
 
 -- bytes stored behind the first n
 behind_set : {left : List ℕ} (reply : List ℕ) (n : ℕ) (l : List ℕ) (m : ℕ) → length l ≡ m → n + m ≤ length reply → left ≡ sets reply n l
@@ -196,11 +168,11 @@ module _ {s : List ℕ} {sh : Shape} {last : ℕ} {notes₀ content₀ reply own
     pub reading_ran_out : unit_at s i ≡ units.gone → AllDone s k notes₀ content₀ (ended_at variant.More (length s) log) reply own notes content
     reading_ran_out u = over_with [] (laws.top_gone s (kind_for k) i (take got reply) v.near u) refl (gives_none v.near)
 
-    pub reading_refused : {b n x : ℕ} → unit_at s i ≡ units.datum b n → shape_turn sh got b ≡ refused x
+    pub reading_refused : {b n : ℕ} {x : Refusal} → unit_at s i ≡ units.datum b n → shape_turn sh got b ≡ refused (number x)
         → AllDone s k notes₀ content₀ (ended_at (variant.Refused x) n log) reply own notes content
-    reading_refused {b} u t =
+    reading_refused {b} {x = x} u t =
         let q = data_near s i u in
-        over_with [] (laws.top_refused s (kind_for k) i (take got reply) v.near u (turned_as b t)) refl (gives_none (omega arith))
+        over_with [] (laws.top_refused s (kind_for k) i (take got reply) v.near u (turned_as b t)) (ap variant.Refused (sym (refusal_back x))) (gives_none (omega arith))
 
     pub reading_done : {b n : ℕ} → unit_at s i ≡ units.datum b n → shape_turn sh got b ≡ done
         → AllDone s k notes₀ content₀ (ended_at (variant.Reply (got + 1)) n log) (set reply got b) own notes content
@@ -211,14 +183,14 @@ module _ {s : List ℕ} {sh : Shape} {last : ℕ} {notes₀ content₀ reply own
         (ap variant.Reply (sym size)) (gives_none (omega arith))
 
     pub reading_halts : {m n : ℕ} {r : Walked} {answer : Answer} {own-left notes-left content-left : List ℕ} → unit_at s i ≡ units.mark m n
-        → ActDone s 0 (min n (length s)) (rules.meaning_of m) log notes content r own-left notes-left content-left → r.end ≡ Halt answer
+        → ActDone s 0 (min n (length s)) (rules.meaning_of m) log notes content r own-left notes-left content-left → r.end ≡ Some answer
         → AllDone s k notes₀ content₀ (ended_at answer r.at r.log) reply own-left notes-left content-left
     reading_halts {m} {n} {r} {answer} {own-left} u b e =
         let q = mark_near s i u in
         let a = at_mark i u b in
-        let ends : Ends answer own-left = subst (λ (x : code-end.End). EndedWell x own-left) e a.ends in
+        let ends : Ends answer own-left = subst (λ (x : Option Answer). EndedWell x own-left) e a.ends in
         let says : Act s 0 n (rules.meaning_of m) a.given (halt r.at (outcome_of answer [] own-left)) =
-        subst (λ (x : code-end.End). Act s 0 n (rules.meaning_of m) a.given (went_of x r.at own-left)) e a.says in
+        subst (λ (x : Option Answer). Act s 0 n (rules.meaning_of m) a.given (went_of x r.at own-left)) e a.says in
         over_with a.given (rw (ends.same reply) (laws.top_halt s (kind_for k) i (take got reply) v.near u says)) (rw (ends.same reply) ends.sized) (a.gives i (omega arith))
 
   -- a byte that needs more, and plain bytes behind it
@@ -262,14 +234,14 @@ module _ {s : List ℕ} {sh : Shape} {last : ℕ} {notes₀ content₀ reply own
 
   -- an action that leaves the reply at its place
   pub reading_acts : {m n : ℕ} {r : Walked} {own-left notes-left content-left : List ℕ} → unit_at s i ≡ units.mark m n
-      → ActDone s 0 (min n (length s)) (rules.meaning_of m) log notes content r own-left notes-left content-left → r.end ≡ On
+      → ActDone s 0 (min n (length s)) (rules.meaning_of m) log notes content r own-left notes-left content-left → r.end ≡ None
       → length notes-left ≡ length notes → length content-left ≡ length content
       → Reading s sh last notes₀ content₀ reply own-left notes-left content-left r.log r.at got
   reading_acts {m} {n} {r} {own-left} u b e p c =
       let q = mark_near s i u in
       let a = at_mark i u b in
       let says : Act s 0 n (rules.meaning_of m) a.given (on r.at) =
-      subst (λ (x : code-end.End). Act s 0 n (rules.meaning_of m) a.given (went_of x r.at own-left)) e a.says in
+      subst (λ (x : Option Answer). Act s 0 n (rules.meaning_of m) a.given (went_of x r.at own-left)) e a.says in
       record {
         given = v.given ++ a.given;
         chain = λ k is x w. subst (Whole s k 0 []) (give_give v.given a.given x) (v.chain k is _ (laws.top_on s k i (take got reply) v.near u says w));
@@ -284,14 +256,14 @@ module _ {s : List ℕ} {sh : Shape} {last : ℕ} {notes₀ content₀ reply own
       }
 
 differ : true ≡ false → ⊥
-differ e = let z : ◌≡◌ {A = ℕ} 0 1 = cc in omega arith
+differ e = cc
 
 -- How a call begins on a fresh link.
 fresh_view : (reply own : List ℕ) → view_of link.fresh reply own ≡ rules.fresh
 unfolding usable_of
 fresh_view reply own = rw nest_none
 
-pub begins_fresh : {l : Link} {k : CallKind} {r : Started} {a : Begun} → l ≡ link.fresh → BeginDone l k r → r.answer ≡ a
+pub begins_fresh : {l : Link} {k : CallKind} {r : Started} {a : Result Begun Refusal} → l ≡ link.fresh → BeginDone l k r → r.answer ≡ a
     → (rules.begin rules.fresh (kind_for k)).answer ≡ begun_of a
 begins_fresh {k = k} is d e =
     ap (λ (x : rules.Link). (rules.begin x (kind_for k)).answer) (sym (ap (λ (x : Link). view_of x [] []) is ∙ fresh_view [] [])) ∙ sym (d.answer [] []) ∙ ap begun_of e
@@ -306,7 +278,7 @@ reply_from k s e = ap (λ (a : rules.Begun). recorded_from a (rules.begin rules.
 pub waits_some : (k : Kind) → (rules.begin rules.fresh k).answer ≡ rules.begun → 0 < longest (shape_of k)
 unfolding rules.begin rules.enters
 waits_some k = choice (λ (x : rules.Entry). x.answer ≡ rules.begun → 0 < longest (shape_of k)) (eqb (longest (shape_of k)) 0)
-    (λ _ e. let z : ◌≡◌ {A = ℕ} 0 1 = cc in absurd (omega arith)) (λ e _. let n = eqb-false (longest (shape_of k)) 0 e in omega arith)
+    (λ _ e. cc) (λ e _. let n = eqb-false (longest (shape_of k)) 0 e in omega arith)
 
 waits_reply : (k : Kind) (s : List ℕ) → 0 < longest (shape_of k)
     → recorded_reply k s ≡ recorded 0 (rules.live (inside []) (rules.frame (rules.waiting k) [])) s
@@ -342,7 +314,7 @@ module _ {s : List ℕ} {k : CallKind} {notes content : List ℕ} {r : Ended} {r
 
   -- the lent bytes are too short
   pub short_read : {n c out : List ℕ} → is_short r.log (length n) (length c) ≡ true
-      → ReadDone k s n c out (record { answer = variant.Refused 8; used = 0; noted = r.log.noted; stored = r.log.stored }) n c out
+      → ReadDone k s n c out (record { answer = variant.Refused NoRoom; used = 0; noted = r.log.noted; stored = r.log.stored }) n c out
   short_read {n} {c} e = record {
     notes_count = run_counts.0;
     content_count = run_counts.1;
@@ -397,6 +369,6 @@ module _ {s : List ℕ} {k : CallKind} {notes content out : List ℕ} where
       → ReadDone k s notes content out (nothing_read (variant.Reply 0)) notes content out
   complete_read e = ended_read s k notes content out (reply_from (kind_for k) s e) refl refl
 
-  pub denied_read : {n : ℕ} → (rules.begin rules.fresh (kind_for k)).answer ≡ rules.denied n
-      → ReadDone k s notes content out (nothing_read (variant.Refused n)) notes content out
-  denied_read e = ended_read s k notes content out (reply_from (kind_for k) s e) refl refl
+  pub denied_read : {r : Refusal} → (rules.begin rules.fresh (kind_for k)).answer ≡ rules.denied (number r)
+      → ReadDone k s notes content out (nothing_read (variant.Refused r)) notes content out
+  denied_read {r} e = ended_read s k notes content out (reply_from (kind_for k) s e) (ap variant.Refused (sym (refusal_back r))) refl

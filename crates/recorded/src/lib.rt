@@ -4,7 +4,7 @@
 ghost use Rattle.std.specs.Prelude.{◌≤◌, ◌<◌, ◌≡◌, ◌∷◌, length, take, drop};
 ghost use Rattle.escape.specs.Put.{over};
 ghost use Rattle.serial_rules.specs.Reply.{shape_of, longest};
-ghost use Rattle.kind.specs.Kinds.{kind_for, reply_lent};
+ghost use Rattle.kind.specs.Kinds.{kind_for};
 ghost use Rattle.action_bytes.specs.Parts.{outcome_of};
 ghost use Rattle.recorded.specs.Promise.{bytes_of, ReadDone};
 ghost use Rattle.recorded.specs.Parts.{ended_at, nothing_read, is_short, PassDone, AllDone};
@@ -14,11 +14,11 @@ use escape::Unit;
 use kind::CallKind;
 use link::{Begun, Link};
 use notes::Log;
-use transfers::End;
+use refusal::Refusal;
 use turns::Turn;
 
 // What is read of a recording: how it ended, need-more where it ran out; how many raw bytes were used; how many notes and bytes of data it gives.
-#[derive(Clone, Copy)]
+#[derive(Clone, Copy, PartialEq, Eq, Debug)]
 pub struct Recorded {
     pub answer: Answer,
     pub used: usize,
@@ -46,11 +46,12 @@ pub fn read_recorded(
     ensures { ReadDone kind raw.now notes.old content.old out.old result notes.new content.new out.new }
 {
     let started = Link::new().begin(kind);
-    let answer = started.answer;
-    match answer {
-        Begun::Waits => read_waiting(kind, raw, notes, content, out),
-        Begun::Complete => nothing_read(Answer::Reply(0)),
-        Begun::Denied(n) => nothing_read(Answer::Refused(n)),
+    match started.answer {
+        Ok(begun) => match begun {
+            Begun::Waits => read_waiting(kind, raw, notes, content, out),
+            Begun::Complete => nothing_read(Answer::Reply(0)),
+        },
+        Err(refusal) => nothing_read(Answer::Refused(refusal)),
     }
 }
 
@@ -59,7 +60,7 @@ fn nothing_read(answer: Answer) -> Recorded
     ensures { result ≡ nothing_read answer }
 {
     Recorded {
-        answer: answer,
+        answer,
         used: 0,
         noted: 0,
         stored: 0,
@@ -72,9 +73,9 @@ fn read_waiting(
     raw: &[u8],
     notes: &mut [u8],
     content: &mut [u8],
-    out: &mut [u8],
+    out: &mut [u8; CallKind::REPLY],
 ) -> Recorded
-    requires { (0 < longest (shape_of (kind_for kind))) × (length out.old ≡ reply_lent) }
+    requires { 0 < longest (shape_of (kind_for kind)) }
     ensures { ReadDone kind raw.now notes.old content.old out.old result notes.new content.new out.new }
 {
     let mut reply = [0u8; CallKind::REPLY];
@@ -92,21 +93,19 @@ fn read_waiting(
     let needed = counted.log;
     if is_short(needed, notes.len(), content.len()) {
         return Recorded {
-            answer: Answer::Refused(8),
+            answer: Answer::Refused(Refusal::NoRoom),
             used: 0,
             noted: needed.noted,
             stored: needed.stored,
         };
     }
     let read = read_whole(kind, raw, &mut reply, &mut own, notes, content);
-    let answer = read.answer;
-    let log = read.log;
-    settle(answer, &reply, &own, out);
+    settle(read.answer, &reply, &own, out);
     Recorded {
-        answer: answer,
+        answer: read.answer,
         used: read.at,
-        noted: log.noted,
-        stored: log.stored,
+        noted: read.log.noted,
+        stored: read.log.stored,
     }
 }
 
@@ -114,42 +113,27 @@ fn read_waiting(
 fn is_short(log: Log, notes: usize, content: usize) -> bool
     ensures { result ≡ is_short log notes content }
 {
-    if notes / Log::NOTE < log.noted {
-        return true;
-    }
-    content < log.stored
+    notes / Log::NOTE < log.noted || content < log.stored
 }
 
 // The reply's bytes, or an error's number and text, into `out`.
-fn settle(answer: Answer, reply: &[u8], own: &[u8; Link::OWN], out: &mut [u8])
-    requires { (length reply.now ≡ reply_lent) × (length out.old ≡ reply_lent) }
+fn settle(
+    answer: Answer,
+    reply: &[u8; CallKind::REPLY],
+    own: &[u8; Link::OWN],
+    out: &mut [u8; CallKind::REPLY],
+)
     ensures { out.new ≡ over (bytes_of (outcome_of answer reply.now own.now)) out.old }
 {
     match answer {
-        Answer::More => {}
-        Answer::Character(_) => {}
         Answer::Reply(n) => put_first(reply, n, out),
-        Answer::EscapeState(_) => {}
-        Answer::Event { y: _, x: _, a: _ } => {}
-        Answer::Address {
-            target: _,
-            b3: _,
-            b2: _,
-            b1: _,
-            b0: _,
-        } => {}
-        Answer::Block(_) => {}
-        Answer::Loaded(_) => {}
-        Answer::Ended { save: _ } => {}
         Answer::Error { number, length } => put_error(number, length, own, out),
-        Answer::Restart => {}
-        Answer::Refused(_) => {}
+        _ => {}
     }
 }
 
 // An error's number, and the text of so many bytes that stands behind the first of its own.
-fn put_error(number: u8, n: usize, own: &[u8], out: &mut [u8])
-    requires { (1 ≤ length own.now) × (length own.now ≤ length out.old) }
+fn put_error(number: u8, n: usize, own: &[u8; Link::OWN], out: &mut [u8; CallKind::REPLY])
     ensures { out.new ≡ over (number ∷ take n (drop 1 own.now)) out.old }
 {
     out[0] = number;
@@ -161,26 +145,20 @@ fn put_first(bytes: &[u8], n: usize, out: &mut [u8])
     requires { length bytes.now ≤ length out.old }
     ensures { out.new ≡ over (take n bytes.now) out.old }
 {
-    let mut i: usize = 0;
-    while i < n {
-        if bytes.len() <= i {
-            return;
-        }
-        out[i] = bytes[i];
-        i += 1;
-    }
+    let n = n.min(bytes.len());
+    out[..n].copy_from_slice(&bytes[..n]);
 }
 
 // The reply from its first byte on.
 fn read_whole(
     kind: CallKind,
     raw: &[u8],
-    reply: &mut [u8],
+    reply: &mut [u8; CallKind::REPLY],
     own: &mut [u8; Link::OWN],
     notes: &mut [u8],
     content: &mut [u8],
 ) -> Ended
-    requires { (0 < longest (shape_of (kind_for kind))) × (length reply.old ≡ reply_lent) }
+    requires { 0 < longest (shape_of (kind_for kind)) }
     ensures { AllDone raw.now kind notes.old content.old result reply.new own.new notes.new content.new }
 {
     let shape = kind.shape();
@@ -195,18 +173,19 @@ fn read_whole(
                 return stopped_at(Answer::More, raw.len(), log);
             }
             Unit::Data(b, next) => {
-                let turn = shape.turn(got, b);
-                match turn {
-                    Turn::Refused(n) => {
-                        return stopped_at(Answer::Refused(n), next, log);
+                let turn = match shape.turn(got, b) {
+                    Ok(turn) => turn,
+                    Err(refusal) => {
+                        return stopped_at(Answer::Refused(refusal), next, log);
                     }
+                };
+                reply[got] = b;
+                got += 1;
+                match turn {
                     Turn::Done => {
-                        reply[got] = b;
-                        return stopped_at(Answer::Reply(got + 1), next, log);
+                        return stopped_at(Answer::Reply(got), next, log);
                     }
                     Turn::More => {
-                        reply[got] = b;
-                        got += 1;
                         let n = pass(&raw[next..], got, last, reply);
                         got += n;
                         i = next + n;
@@ -215,12 +194,11 @@ fn read_whole(
             }
             Unit::Mark(m, next) => {
                 let w = transfers::read_action(raw, next, m, log, own, notes, content);
-                let end = w.end;
-                match end {
-                    End::Halt(answer) => {
+                match w.end {
+                    Some(answer) => {
                         return stopped_at(answer, w.at, w.log);
                     }
-                    End::On => {
+                    None => {
                         i = w.at;
                         log = w.log;
                     }
@@ -233,11 +211,7 @@ fn read_whole(
 fn stopped_at(answer: Answer, at: usize, log: Log) -> Ended
     ensures { result ≡ ended_at answer at log }
 {
-    Ended {
-        answer: answer,
-        at: at,
-        log: log,
-    }
+    Ended { answer, at, log }
 }
 
 // Plain raw bytes in the middle of the reply, before its last byte: each would need more, and they are stored at once. Returns how many.

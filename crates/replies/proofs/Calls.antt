@@ -11,7 +11,7 @@ use Rattle.serial_rules.specs.Stream.{answers, FirstAnswer}
 use Rattle.serial_rules.specs.Call as call
 use Rattle.serial_rules.specs.Link as link
 use Rattle.serial_rules.specs.Session.{Input, raw, Told}
-use Rattle.fields.specs.declared.Written.{Written}
+use Rattle.fields.specs.Promise.{Written}
 use Rattle.fields.specs.Promise.{number}
 use Rattle.fields.proofs.Wrote.{wrote}
 use Rattle.kind.specs.Kinds.{kind_for}

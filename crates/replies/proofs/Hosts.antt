@@ -19,7 +19,7 @@ use Rattle.host_rules.specs.Actions.{sent_raw, sent_ok, sent_number}
 use Rattle.host_rules.specs.Streams.{Item, replying, loading, item_raw, raw_of, sendable, all_sendable, may_act, stands, closes, reply_in, ActionHeard, Heard}
 use Rattle.host_rules.proofs.Actions.{action_heard}
 use Rattle.host_rules.proofs.Streams.{reply_some, host_heard}
-use Rattle.fields.specs.declared.Written.{Written}
+use Rattle.fields.specs.Promise.{Written}
 use Rattle.fields.specs.Promise.{number}
 use Rattle.fields.proofs.Wrote.{wrote, wrote_is, checks}
 use Rattle.kind.specs.Kinds.{kind_for}

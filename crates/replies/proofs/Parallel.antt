@@ -12,14 +12,14 @@ use Rattle.serial_rules.specs.Reply as rules
 use Rattle.serial_rules.specs.Reply.{reply_turn, reply_turns, longest, shape_of}
 use Rattle.serial_rules.proofs.Lent.{take_next}
 use Rattle.serial_rules.proofs.Parallel.{last_done, turn_below, parallel_read_back, parallel_rewritten}
-use Rattle.fields.specs.declared.Written.{Written}
+use Rattle.fields.specs.Promise.{Written}
 use Rattle.fields.specs.Promise.{number}
 use Rattle.fields.proofs.Wrote.{wrote, wrote_is}
 use Rattle.turns.specs.Turns.{turn_of}
 use Rattle.kind.specs.Kinds.{kind_for, reply_lent}
 use Rattle.kind.specs.declared.CallKind.{CallKind}
 use Rattle.reply.specs.declared.Reply.{Reply}
-use Rattle.reply.specs.declared.Given.{Given}
+use Rattle.reply.specs.Promise.{Given}
 use Rattle.reply.specs.Promise.{reply_for, given_in, ReadDone}
 use Rattle.reply_reader.specs.declared.Taken.{Taken}
 use Rattle.reply_reader.specs.Promise.{count_after, TakeDone}
@@ -49,21 +49,21 @@ module _ (k : CallKind) (most : longest (shape_of (kind_for k)) ≤ reply_lent) 
       }
 
   stands_more : {n b : ℕ} {lent left : List ℕ} {o : Taken} → reply_turn (kind_for k) (take n lent) b ≡ more → length lent ≡ reply_lent → TakeDone k n b lent o left → Stands n b lent o left
-  stands_more e = stands more e (λ q. let z : ◌≡◌ {A = ℕ} 0 1 = cc in omega arith) refl refl
+  stands_more e = stands more e (λ q. cc) refl refl
 
   stands_done : {n b : ℕ} {lent left : List ℕ} {o : Taken} → reply_turn (kind_for k) (take n lent) b ≡ done → length lent ≡ reply_lent → TakeDone k n b lent o left → Stands n b lent o left
-  stands_done e = stands done e (λ q. let z : ◌≡◌ {A = ℕ} 0 1 = cc in omega arith) refl refl
+  stands_done e = stands done e (λ q. cc) refl refl
 
   -- the turns of a reply that ends at its last byte, from the rules to the program and back
   pub forth : {n m : ℕ} {lent l end : List ℕ} {turns : List Turn} (waits : ℕ) → Takes k n lent l turns m end → length lent ≡ reply_lent
       → reply_turns (kind_for k) (take n lent) l ≡ last_done waits → (turns ≡ last_done waits) × (take m end ≡ take n lent ++ l)
   unfolding reply_turns
-  forth zero stop whole e = let z : ◌≡◌ {A = ℕ} 0 1 = cc in absurd (omega arith)
-  forth (suc waits) stop whole e = let z : ◌≡◌ {A = ℕ} 0 1 = cc in absurd (omega arith)
+  forth zero stop whole e = cc
+  forth (suc waits) stop whole e = cc
   forth zero (took {n = n} {b = b} {lent = lent} d stop) whole e =
       let t : reply_turn (kind_for k) (take n lent) b ≡ done = cc in
       (ap (λ (x : Turn). x ∷ []) (d.turn_is ∙ t), (stands_done t whole d).bytes)
-  forth zero (took d (took f s)) whole e = let z : ◌≡◌ {A = ℕ} 0 1 = cc in absurd (omega arith)
+  forth zero (took d (took f s)) whole e = cc
   forth (suc waits) (took {n = n} {b = b} {lent = lent} {l = l} d s) whole e =
       let t : reply_turn (kind_for k) (take n lent) b ≡ more = cc in
       let u : reply_turns (kind_for k) (take n lent ++ (b ∷ [])) l ≡ last_done waits = cc in
@@ -74,13 +74,13 @@ module _ (k : CallKind) (most : longest (shape_of (kind_for k)) ≤ reply_lent) 
   pub back : {n m : ℕ} {lent l end : List ℕ} {turns : List Turn} (waits : ℕ) → Takes k n lent l turns m end → length lent ≡ reply_lent
       → turns ≡ last_done waits → (reply_turns (kind_for k) (take n lent) l ≡ last_done waits) × (take m end ≡ take n lent ++ l)
   unfolding reply_turns
-  back zero stop whole e = let z : ◌≡◌ {A = ℕ} 0 1 = cc in absurd (omega arith)
-  back (suc waits) stop whole e = let z : ◌≡◌ {A = ℕ} 0 1 = cc in absurd (omega arith)
+  back zero stop whole e = cc
+  back (suc waits) stop whole e = cc
   back zero (took {b = b} {o = o} d stop) whole e =
       let t : turn_of o.turn ≡ done = cc in
       let u = sym d.turn_is ∙ t in
       (ap (λ (x : Turn). x ∷ []) u, (stands_done u whole d).bytes)
-  back zero (took d (took f s)) whole e = let z : ◌≡◌ {A = ℕ} 0 1 = cc in absurd (omega arith)
+  back zero (took d (took f s)) whole e = cc
   back (suc waits) (took {n = n} {b = b} {lent = lent} {l = l} {o = o} {turns = turns} d s) whole e =
       let t : turn_of o.turn ≡ more = cc in
       let v : turns ≡ last_done waits = cc in
@@ -123,7 +123,7 @@ parallel_written_read host parasite reply b t out {left = left} {lent = lent} {e
 -- wherever there is room for it, and writes those bytes in their normal form.
 pub parallel_read_written : {lent end s out after : List ℕ} {m : ℕ} {turns : List Turn} {r : Written} (kind : CallKind) (g : Given) (waits : ℕ)
     → longest (shape_of (kind_for kind)) ≤ reply_lent → length lent ≡ reply_lent → Takes kind 0 lent s turns m end → turns ≡ last_done waits → ReadDone kind s g
-    → ReplyWritten parallel kind g.reply (given_in g s).block (given_in g s).text out r after → length (rules.normal_of (kind_for kind) s) ≤ length out
+    → ReplyWritten parallel kind g.said (given_in g s).block (given_in g s).text out r after → length (rules.normal_of (kind_for kind) s) ≤ length out
     → (number r ≡ 0) × (wrote r after ≡ rules.normal_of (kind_for kind) s)
 parallel_read_written {s = s} kind g waits most whole t e fields d room =
     rewrites parallel kind g (parallel_rewritten (kind_for kind) s waits (back kind most waits t whole e).0) fields d room

@@ -1,5 +1,6 @@
 -- Both readers of a reply: the loop over raw bytes, from a fresh link with the call begun, and the reader of a whole recorded reply stop at the same byte, with
 -- the same actions, load data and outcome.
+use Rattle.std.specs.Prelude.{Ok}
 use Prim.Native.Nat.{ℕ, suc, ◌+◌, ◌*◌, ◌≤◌}
 use native.Mathlib.Nat.{add-zero}
 use native.Mathlib.Omega.{arith}
@@ -104,17 +105,17 @@ closed_chain (a ∷ reports) n s (took {l} {reply = reply} {own} {x = x} {raw} d
 -- an answer is need-more, or not
 either : {X : Type 0} (a : Answer) → (a ≡ variant.More → X) → ((a ≡ variant.More → ⊥) → X) → X
 either variant.More is other = is refl
-either (variant.Character b) is other = other (λ e. let z : ◌≡◌ {A = ℕ} 0 1 = cc in omega arith)
-either (variant.Reply n) is other = other (λ e. let z : ◌≡◌ {A = ℕ} 0 1 = cc in omega arith)
-either (variant.EscapeState on) is other = other (λ e. let z : ◌≡◌ {A = ℕ} 0 1 = cc in omega arith)
-either (variant.Event y x a) is other = other (λ e. let z : ◌≡◌ {A = ℕ} 0 1 = cc in omega arith)
-either (variant.Address t b3 b2 b1 b0) is other = other (λ e. let z : ◌≡◌ {A = ℕ} 0 1 = cc in omega arith)
-either (variant.Block n) is other = other (λ e. let z : ◌≡◌ {A = ℕ} 0 1 = cc in omega arith)
-either (variant.Loaded b) is other = other (λ e. let z : ◌≡◌ {A = ℕ} 0 1 = cc in omega arith)
-either (variant.Ended s) is other = other (λ e. let z : ◌≡◌ {A = ℕ} 0 1 = cc in omega arith)
-either (variant.Error n k) is other = other (λ e. let z : ◌≡◌ {A = ℕ} 0 1 = cc in omega arith)
-either variant.Restart is other = other (λ e. let z : ◌≡◌ {A = ℕ} 0 1 = cc in omega arith)
-either (variant.Refused n) is other = other (λ e. let z : ◌≡◌ {A = ℕ} 0 1 = cc in omega arith)
+either (variant.Character b) is other = other (λ e. cc)
+either (variant.Reply n) is other = other (λ e. cc)
+either (variant.EscapeState on) is other = other (λ e. cc)
+either (variant.Event y x a) is other = other (λ e. cc)
+either (variant.Address t b3 b2 b1 b0) is other = other (λ e. cc)
+either (variant.Block n) is other = other (λ e. cc)
+either (variant.Loaded b) is other = other (λ e. cc)
+either (variant.Ended s) is other = other (λ e. cc)
+either (variant.Error n k) is other = other (λ e. cc)
+either variant.Restart is other = other (λ e. cc)
+either (variant.Refused n) is other = other (λ e. cc)
 
 -- What the loop did is the recorded run over the same bytes.
 record AsRecorded (v : rules.Link) (raw : List ℕ) (reports : List rules.Report) (r : Ran) (reply-left own-left : List ℕ) : Type 0 where
@@ -168,14 +169,14 @@ module _ {kind : CallKind} {started : Started} (b : BeginDone fresh kind started
   begun_is : (reply own : List ℕ) → begun_of started.answer ≡ (rules.begin rules.fresh (kind_for kind)).answer
   begun_is reply own = b.answer reply own ∙ ap (λ (v : rules.Link). (rules.begin v (kind_for kind)).answer) (fresh_view reply own)
 
-  waiting_run : (reply own raw : List ℕ) → started.answer ≡ Waits → recorded_reply (kind_for kind) raw ≡ recorded 0 (view_of started.link reply own) raw
+  waiting_run : (reply own raw : List ℕ) → started.answer ≡ Ok Waits → recorded_reply (kind_for kind) raw ≡ recorded 0 (view_of started.link reply own) raw
   unfolding recorded_reply
   waiting_run reply own raw e =
       let a : (rules.begin rules.fresh (kind_for kind)).answer ≡ rules.begun = sym (begun_is reply own) ∙ ap begun_of e in
       let n : view_of started.link reply own ≡ (rules.begin rules.fresh (kind_for kind)).next = b.next reply own ∙ ap (λ (v : rules.Link). (rules.begin v (kind_for kind)).next) (fresh_view reply own) in
       rw (a, n) refl
 
-  complete_run : (raw : List ℕ) → started.answer ≡ Complete → recorded_reply (kind_for kind) raw ≡ recording [] 0 (closed (rules.reply []))
+  complete_run : (raw : List ℕ) → started.answer ≡ Ok Complete → recorded_reply (kind_for kind) raw ≡ recording [] 0 (closed (rules.reply []))
   unfolding recorded_reply
   complete_run raw e =
       let a : (rules.begin rules.fresh (kind_for kind)).answer ≡ rules.complete = sym (begun_is [] []) ∙ ap begun_of e in
@@ -198,7 +199,7 @@ pub record SameRead (ran : Ran) (read : Recorded) (reply-left own-left room room
 
 pub both_readers : {kind : CallKind} {started : Started} {ran : Ran} {read : Recorded}
     {reply own raw room content reply-left own-left room-left content-left notes area out notes-left area-left out-left : List ℕ}
-    → BeginDone fresh kind started → started.answer ≡ Waits
+    → BeginDone fresh kind started → started.answer ≡ Ok Waits
     → RunDone started.link reply own raw room content ran reply-left own-left room-left content-left
     → lacks_room started.link.held (length raw) (length room) (length content) ≡ false
     → ReadDone kind raw notes area out read notes-left area-left out-left
@@ -236,7 +237,7 @@ pub record NothingRead (read : Recorded) (notes area out notes-left area-left ou
   pub same : (notes-left ≡ notes) × (area-left ≡ area) × (out-left ≡ out)
 
 pub complete_read : {kind : CallKind} {started : Started} {read : Recorded} {raw notes area out notes-left area-left out-left : List ℕ} → BeginDone fresh kind started
-    → started.answer ≡ Complete → ReadDone kind raw notes area out read notes-left area-left out-left → NothingRead read notes area out notes-left area-left out-left
+    → started.answer ≡ Ok Complete → ReadDone kind raw notes area out read notes-left area-left out-left → NothingRead read notes area out notes-left area-left out-left
 unfolding has_room adds_all
 complete_read {kind} {raw = raw} {notes} {area} {out} b w e =
     let q = complete_run b raw w in

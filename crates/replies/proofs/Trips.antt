@@ -15,7 +15,7 @@ use Rattle.serial_rules.specs.Session.{Input, raw, Told, report, tells, link_aft
 use Rattle.serial_rules.proofs.Replies.{written_then_read}
 use Rattle.serial_rules.proofs.Normal.{ReplyRewritten, read_then_written}
 use Rattle.serial_rules.proofs.Finishing.{Sound, after_sound, wait_in, reply_ends}
-use Rattle.fields.specs.declared.Written.{Written}
+use Rattle.fields.specs.Promise.{Written}
 use Rattle.fields.specs.Promise.{number}
 use Rattle.fields.proofs.Wrote.{wrote, wrote_is, checks}
 use Rattle.kind.specs.Kinds.{kind_for}
@@ -26,7 +26,7 @@ use Rattle.link.specs.declared.Started.{Started}
 use Rattle.link.specs.View.{usable_of, view_of, begun_of, fresh, StepDone, BeginDone}
 use Rattle.answers.specs.Reports.{report_of}
 use Rattle.reply.specs.declared.Reply.{Reply}
-use Rattle.reply.specs.declared.Given.{Given}
+use Rattle.reply.specs.Promise.{Given}
 use Rattle.reply.specs.Promise.{reply_for, given_in, ReadDone}
 use Rattle.reply.proofs.Laws.{given_is}
 use Rattle.reply_writer.specs.Promise.{ReplyWritten}
@@ -81,7 +81,7 @@ written_read kind kind' reply b t out {left = left} {lent = lent} {own = own} {r
 
 -- A reply read from the bytes s by its kind is written in its normal bytes, on either carrier.
 pub rewrites : (c : Carrier) (kind : CallKind) (g : Given) {s out after : List ℕ} {r : Written} → ReplyRewritten (kind_for kind) s → ReadDone kind s g
-    → ReplyWritten c kind g.reply (given_in g s).block (given_in g s).text out r after → length (carried c (rules.normal_of (kind_for kind) s)) ≤ length out
+    → ReplyWritten c kind g.said (given_in g s).block (given_in g s).text out r after → length (carried c (rules.normal_of (kind_for kind) s)) ≤ length out
     → (number r ≡ 0) × (wrote r after ≡ carried c (rules.normal_of (kind_for kind) s))
 unfolding rules.reply_encoding
 rewrites c kind g {s = s} {out = out} {r = r} z fields d room =
@@ -101,7 +101,7 @@ rewrites c kind g {s = s} {out = out} {r = r} z fields d room =
 pub read_written : {lent own lent-end own-end lent-left own-left s out after : List ℕ} {i : List Input} {told : List Told} {q : Link} {x : ℕ} {o : Stepped} {r : Written}
     (kind : CallKind) (g : Given) → Sessions fresh lent own i told q lent-end own-end → wait_in (view_of q lent-end own-end) ≡ link.waiting (kind_for kind)
     → StepDone q lent-end own-end x o lent-left own-left → report_of o.answer lent-left own-left ≡ link.reply s → ReadDone kind s g
-    → ReplyWritten serial kind g.reply (given_in g s).block (given_in g s).text out r after → length (escaped (rules.normal_of (kind_for kind) s)) ≤ length out
+    → ReplyWritten serial kind g.said (given_in g s).block (given_in g s).text out r after → length (escaped (rules.normal_of (kind_for kind) s)) ≤ length out
     → (number r ≡ 0) × (wrote r after ≡ escaped (rules.normal_of (kind_for kind) s))
 read_written {lent = lent} {own = own} {lent-end = lent-end} {own-end = own-end} {s = s} {out = out} {i = i} {q = q} {x = x} {r = r} kind g session waits step said fields d room =
     let k = kind_for kind in

@@ -3,7 +3,7 @@ use Rattle.std.specs.Prelude.{ℕ, ◌≡◌, List, [], ◌∷◌, ◌++◌, map
 use Rattle.serial_rules.specs.Escape.{escaped}
 use Rattle.serial_rules.specs.Link as rules
 use Rattle.host_rules.specs.Streams.{Item, replying, loading, acting}
-use Rattle.fields.specs.declared.Written.{Written}
+use Rattle.fields.specs.Promise.{Written}
 use Rattle.fields.specs.Promise.{number, count, Encoded}
 use Rattle.action_parts.specs.declared.Sent.{Sent}
 use Rattle.action_parts.specs.Parts.{sent_for}

@@ -1,26 +1,33 @@
 -- The parts of a reply.
-use Rattle.std.specs.Prelude.{ℕ, Bool, cond, not, ◌&&◌, ◌||◌, List, [], ◌∷◌, ◌++◌, eqb, length, take}
+use Rattle.std.specs.Prelude.{ℕ, Bool, not, ◌&&◌, ◌||◌, List, [], ◌∷◌, ◌++◌, eqb, length, take}
 use Rattle.serial_rules.specs.Call.{return, has_return}
 use Rattle.serial_rules.specs.Reply as rules
-use Rattle.serial_rules.specs.Reply.{Kind, form_of, block_in, carry_byte, ack_byte, form_in, has_line}
-use Rattle.fields.specs.Padded.{padded}
+use Rattle.serial_rules.specs.Reply.{Kind, form_of, block_in, carry_byte, ack_byte}
+use Rattle.kind.specs.declared.Form.{Form}
+use Rattle.kind.specs.declared.Form.TheVariants as form
+use Rattle.kind.specs.Kinds.{form_number}
+use Rattle.fields.specs.declared.few.Few.{Few}
+use Rattle.fields.specs.Few.{few}
+use Rattle.fields.specs.declared.middle.Middle.{Middle}
+use Rattle.fields.specs.declared.middle.Middle.TheVariants.{Nothing, Block, Text}
+use Rattle.fields.specs.Middle.{middle_in, is_text}
 use Rattle.reply_parts.specs.declared.Parts.{Parts}
 
-abbrev pub parts_with : ℕ → Bool → Bool → List ℕ → ℕ → List ℕ → ℕ → Parts
-parts_with form block line head before tail behind =
-    record { form = form; block = block; line = line; head = head; before = before; tail = tail; behind = behind }
+-- the parts of a reply of numbers alone
+abbrev pub numbers_of : Form → Few 3 → Parts
+numbers_of form head = record { form = form; middle = Nothing; head = head; tail = few 2 [] }
 
 -- the numbers of parts around the bytes m
 abbrev pub numbers_around : Parts → List ℕ → List ℕ
-numbers_around p m = take p.before p.head ++ (m ++ take p.behind p.tail)
+numbers_around p m = take p.head.count p.head.bytes ++ (m ++ take p.tail.count p.tail.bytes)
 
 -- the data bytes of parts, with the block b and the string t
 abbrev pub parts_bytes : Parts → List ℕ → List ℕ → List ℕ
-parts_bytes p b t = numbers_around p (cond p.line t (cond p.block b []))
+parts_bytes p b t = numbers_around p (middle_in p.middle b t)
 
 -- parts fit the kind
 unfoldable pub parts_ok : Kind → Parts → List ℕ → List ℕ → Bool
-parts_ok kind p b t = eqb p.form (form_of kind) && (eqb (length b) (block_in kind) && ((p.line || eqb (length t) 0) && not (has_return t)))
+parts_ok kind p b t = eqb (form_number p.form) (form_of kind) && (eqb (length b) (block_in kind) && ((is_text p.middle || eqb (length t) 0) && not (has_return t)))
 
 -- the numbers of a reply before its block or line; "escaped as &FF, other plain acknowledgements as &7F"
 abbrev pub numbers_before : rules.Reply → List ℕ
@@ -48,11 +55,31 @@ numbers_behind (rules.a_block a) = []
 numbers_behind rules.plain = []
 numbers_behind (rules.block_carry_a c a) = carry_byte c ∷ a ∷ []
 
--- whether a reply has a block: the forms 4 "out length bytes", 6 "A, 4 bytes" or "A, 16 bytes", and 8 "13 bytes, Cy A" have one
-abbrev pub has_block : rules.Reply → Bool
-has_block r = eqb (form_in r) 4 || (eqb (form_in r) 6 || eqb (form_in r) 8)
+-- what stands in the middle of a reply: the forms 4 "out length bytes", 6 "A, 4 bytes" or "A, 16 bytes", and 8 "13 bytes, Cy A" have a block
+abbrev pub middle_of : rules.Reply → Middle
+middle_of (rules.carry_a c a) = Nothing
+middle_of (rules.ack k) = Nothing
+middle_of (rules.byte x) = Nothing
+middle_of (rules.carry_yx c y x) = Nothing
+middle_of rules.block = Block
+middle_of rules.escaped_line = Nothing
+middle_of rules.read_line = Text
+middle_of (rules.a_block a) = Block
+middle_of rules.plain = Nothing
+middle_of (rules.block_carry_a c a) = Block
+
+abbrev pub form_for : rules.Reply → Form
+form_for (rules.carry_a c a) = form.CarryA
+form_for (rules.ack k) = form.Ack
+form_for (rules.byte x) = form.Byte
+form_for (rules.carry_yx c y x) = form.CarryYX
+form_for rules.block = form.Block
+form_for rules.escaped_line = form.Line
+form_for rules.read_line = form.Line
+form_for (rules.a_block a) = form.ABlock
+form_for rules.plain = form.Plain
+form_for (rules.block_carry_a c a) = form.BlockCarryA
 
 -- the parts of a reply: its numbers stand in arrays of three and two places
 unfoldable pub parts_of : rules.Reply → Parts
-parts_of r =
-    parts_with (form_in r) (has_block r) (has_line r) (padded 3 (numbers_before r)) (length (numbers_before r)) (padded 2 (numbers_behind r)) (length (numbers_behind r))
+parts_of r = record { form = form_for r; middle = middle_of r; head = few 3 (numbers_before r); tail = few 2 (numbers_behind r) }

@@ -1,13 +1,14 @@
 // What each reply is made of, and whether it fits the kind of the call that waits.
 #![tactic(auto)]
 
-ghost use Rattle.std.specs.Prelude.{◌≡◌, false, [], ◌∷◌};
+ghost use Rattle.std.specs.Prelude.{◌≡◌};
 ghost use Rattle.serial_rules.specs.Reply.{carry_byte, ack_byte};
 ghost use Rattle.kind.specs.Kinds.{kind_for};
 ghost use Rattle.reply.specs.Promise.{reply_for};
-ghost use Rattle.reply_parts.specs.Parts.{parts_with, parts_ok, parts_of};
+ghost use Rattle.reply_parts.specs.Parts.{numbers_of, parts_ok, parts_of};
 
-use kind::CallKind;
+use fields::{Few, Middle};
+use kind::{CallKind, Form};
 use reply::Reply;
 use strings::Text;
 
@@ -16,99 +17,85 @@ const ESCAPED: u8 = 0xFF;
 
 const PLAIN: u8 = 0x7F;
 
-// What a reply is made of: its form, numbered as `CallKind::form` numbers them, whether it has a block or a line; and its numbers, the
-// first `before` of `head` before block or line, the first `behind` of `tail` behind it.
+// What a reply is made of: its form; whether it has a block or a line; and its numbers, `head` before it, `tail` behind it.
 #[derive(Clone, Copy)]
 pub struct Parts {
-    pub form: u8,
-    pub block: bool,
-    pub line: bool,
-    pub head: [u8; 3],
-    pub before: usize,
-    pub tail: [u8; 2],
-    pub behind: usize,
+    pub form: Form,
+    pub middle: Middle,
+    pub head: Few<3>,
+    pub tail: Few<2>,
 }
 
 // The parts of a reply.
+#[tactic(auto, unfolding(crate::specs::Parts::parts_of))]
 pub fn parts_of(reply: Reply) -> Parts
     ensures { result ≡ parts_of (reply_for reply) }
 {
     match reply {
-        Reply::CarryA { carry, a } => numbers_only(0, [carry_byte(carry), a, 0], 2),
-        Reply::Ack(set) => numbers_only(1, [ack_byte(set), 0, 0], 1),
-        Reply::Byte(x) => numbers_only(2, [x, 0, 0], 1),
-        Reply::CarryYX { carry, y, x } => numbers_only(3, [carry_byte(carry), y, x], 3),
-        Reply::Block => made(4, true, false, [0, 0, 0], 0, [0, 0], 0),
-        Reply::EscapedLine => numbers_only(5, [ESCAPED, 0, 0], 1),
-        Reply::ReadLine => made(5, false, true, [PLAIN, 0, 0], 1, [Text::RETURN, 0], 1),
-        Reply::ABlock(a) => made(6, true, false, [a, 0, 0], 1, [0, 0], 0),
-        Reply::Plain => numbers_only(7, [PLAIN, 0, 0], 1),
-        Reply::BlockCarryA { carry, a } => made(
-            8,
-            true,
-            false,
-            [0, 0, 0],
-            0,
-            [carry_byte(carry), a],
-            2,
-        ),
+        Reply::CarryA { carry, a } => numbers(Form::CarryA, Few::of([carry_byte(carry), a])),
+        Reply::Ack(set) => numbers(Form::Ack, Few::of([ack_byte(set)])),
+        Reply::Byte(x) => numbers(Form::Byte, Few::of([x])),
+        Reply::CarryYX { carry, y, x } => {
+            numbers(Form::CarryYX, Few::of([carry_byte(carry), y, x]))
+        }
+        Reply::Block => Parts {
+            middle: Middle::Block,
+            ..numbers(Form::Block, Few::of([]))
+        },
+        Reply::EscapedLine => numbers(Form::Line, Few::of([ESCAPED])),
+        Reply::ReadLine => Parts {
+            middle: Middle::Text,
+            tail: Few::of([Text::RETURN]),
+            ..numbers(Form::Line, Few::of([PLAIN]))
+        },
+        Reply::ABlock(a) => Parts {
+            middle: Middle::Block,
+            ..numbers(Form::ABlock, Few::of([a]))
+        },
+        Reply::Plain => numbers(Form::Plain, Few::of([PLAIN])),
+        Reply::BlockCarryA { carry, a } => Parts {
+            middle: Middle::Block,
+            tail: Few::of([carry_byte(carry), a]),
+            ..numbers(Form::BlockCarryA, Few::of([]))
+        },
     }
 }
 
-// Parts from their values; those of a reply of numbers alone.
-fn made(
-    form: u8,
-    block: bool,
-    line: bool,
-    head: [u8; 3],
-    before: usize,
-    tail: [u8; 2],
-    behind: usize,
-) -> Parts
-    ensures { result ≡ parts_with form block line head before tail behind }
+// The parts of a reply of numbers alone.
+fn numbers(form: Form, head: Few<3>) -> Parts
+    ensures { result ≡ numbers_of form head }
 {
     Parts {
-        form: form,
-        block: block,
-        line: line,
-        head: head,
-        before: before,
-        tail: tail,
-        behind: behind,
+        form,
+        middle: Middle::Nothing,
+        head,
+        tail: Few::of([]),
     }
-}
-
-fn numbers_only(form: u8, head: [u8; 3], before: usize) -> Parts
-    ensures { result ≡ parts_with form false false head before (0 ∷ 0 ∷ []) 0 }
-{
-    made(form, false, false, head, before, [0, 0], 0)
 }
 
 // Whether a reply of these parts, with its block and its string, fits the kind.
+#[tactic(auto, using(crate::proofs::Laws::fitting), unfolding(crate::specs::Parts::parts_ok))]
 pub fn fits(kind: CallKind, parts: Parts, block: &[u8], text: &[u8]) -> bool
     ensures { result ≡ parts_ok (kind_for kind) parts block.now text.now }
 {
-    if parts.form != kind.form() {
+    if parts.form != kind.form() || block.len() != kind.block_length() {
         return false;
     }
-    if block.len() != kind.block_length() {
-        return false;
-    }
-    if parts.line {
+    if parts.middle == Middle::Text {
         return !strings::has_return(text);
     }
-    text.len() == 0
+    text.is_empty()
 }
 
 // Cy and ack as they are sent.
 fn carry_byte(carry: bool) -> u8
     ensures { result ≡ carry_byte carry }
 {
-    if carry { 0x80 } else { 0x00 }
+    u8::from(carry) * 0x80
 }
 
 fn ack_byte(set: bool) -> u8
     ensures { result ≡ ack_byte set }
 {
-    if set { 0x80 } else { 0x7F }
+    0x7F + u8::from(set)
 }

@@ -1,4 +1,7 @@
 -- The turn of a byte of a reply is that of the reply's shape, as long as there are bytes to come.
+use Rattle.std.specs.Prelude.{Result, Ok, Err}
+use Rattle.refusal.specs.declared.Refusal.{Refusal}
+use Rattle.refusal.specs.declared.Refusal.TheVariants.{Stopped}
 use Prim.Native.Nat.{ℕ, ◌+◌, ◌≤◌, ◌<◌}
 use native.Mathlib.Omega.{arith}
 use mathlib.Core.Path.{◌≡◌, refl, sym, ap, subst}
@@ -11,11 +14,11 @@ use Rattle.serial_rules.specs.Body as body
 use Rattle.serial_rules.specs.Reply.{Shape, shape_of, shape_turn, longest, reply_turn}
 use Rattle.turns.specs.Turns.{turn_of}
 use Rattle.turns.specs.declared.Turn.{Turn}
-use Rattle.turns.specs.declared.Turn.TheVariants.{More, Done, Refused}
+use Rattle.turns.specs.declared.Turn.TheVariants.{More, Done}
 use Rattle.kind.specs.Kinds.{kind_for, reply_lent}
 use Rattle.kind.specs.declared.CallKind.{CallKind}
 use Rattle.reply_reader.specs.declared.Taken.{Taken}
-use Rattle.reply_reader.specs.Promise.{TurnDone, TakeDone, shape_reply, ShapeDone, refused_at}
+use Rattle.reply_reader.specs.Promise.{TurnDone, TakeDone, shape_reply, ShapeDone}
 
 -- a shape with its bytes so far, or with all of them
 over_short : (sh : Shape) (n m b : ℕ) → (n < longest sh → m ≡ n) → (longest sh ≤ n → longest sh ≤ m)
@@ -34,17 +37,15 @@ byte_taken {n} {b} {lent} {left} {r} k {sh} e most whole d =
     subst (λ (s : Shape). TurnDone (cond (ltb (length (take n lent)) (longest s)) (shape_turn s (length (take n lent)) b) (body.refused 7)) n b lent r left) e
     (subst (λ (t : body.Turn). TurnDone t n b lent r left) (sym (over_short sh n (length (take n lent)) b (λ h. omega arith) (λ h. omega arith))) d)
 
--- a byte behind the last, and one that the shape refuses, needs more after or ends with
+-- a byte behind the last, one that the shape refuses, and one that it takes
 module _ (sh : Shape) (n b : ℕ) (lent : List ℕ) where
-  pub over : {r : Taken} → longest sh ≤ n → r ≡ refused_at n 7 → ShapeDone sh n b lent r lent
-  over h e = rw (le-ltb n (longest sh) h, e) (record { turn_is = refl; count_is = refl; bytes = refl })
+  pub over : longest sh ≤ n → ShapeDone sh n b lent (record { turn = Err Stopped; count = n }) lent
+  over h = rw (le-ltb n (longest sh) h) (record { turn_is = refl; count_is = refl; bytes = refl })
 
-  module _ {t : Turn} (h : n < longest sh) (q : turn_of t ≡ shape_turn sh n b) where
-    pub refuses : {r : Taken} {k : ℕ} → t ≡ Refused k → r ≡ refused_at n k → ShapeDone sh n b lent r lent
-    refuses e f = rw (lt-ltb n (longest sh) h, ← q, e, f) (record { turn_is = refl; count_is = refl; bytes = refl })
+  module _ {t : Result Turn Refusal} (h : n < longest sh) (q : turn_of t ≡ shape_turn sh n b) where
+    pub refuses : {r : Refusal} → t ≡ Err r → ShapeDone sh n b lent (record { turn = t; count = n }) lent
+    refuses e = rw (lt-ltb n (longest sh) h, ← q, e) (record { turn_is = refl; count_is = refl; bytes = refl })
 
-    pub goes_on : t ≡ More → ShapeDone sh n b lent (record { turn = More; count = n + 1 }) (set lent n b)
-    goes_on e = rw (lt-ltb n (longest sh) h, ← q, e) (record { turn_is = refl; count_is = refl; bytes = refl })
-
-    pub ends : t ≡ Done → ShapeDone sh n b lent (record { turn = Done; count = n + 1 }) (set lent n b)
-    ends e = rw (lt-ltb n (longest sh) h, ← q, e) (record { turn_is = refl; count_is = refl; bytes = refl })
+    pub takes : (d : Turn) → t ≡ Ok d → ShapeDone sh n b lent (record { turn = t; count = n + 1 }) (set lent n b)
+    takes More e = rw (lt-ltb n (longest sh) h, ← q, e) (record { turn_is = refl; count_is = refl; bytes = refl })
+    takes Done e = rw (lt-ltb n (longest sh) h, ← q, e) (record { turn_is = refl; count_is = refl; bytes = refl })

@@ -4,7 +4,6 @@ use Rattle.serial_rules.specs.Body as body
 use Rattle.serial_rules.specs.Lent.{turn_lent}
 use Rattle.serial_rules.specs.Reply.{Shape, shape_turn, longest, reply_turn}
 use Rattle.turns.specs.Turns.{turn_of}
-use Rattle.turns.specs.declared.Turn.TheVariants.{Refused}
 use Rattle.kind.specs.Kinds.{kind_for}
 use Rattle.kind.specs.declared.CallKind.{CallKind}
 use Rattle.reply_reader.specs.declared.Taken.{Taken}
@@ -31,6 +30,3 @@ shape_reply s n b = cond (ltb n (longest s)) (shape_turn s n b) (body.refused 7)
 
 abbrev pub ShapeDone : Shape → ℕ → ℕ → List ℕ → Taken → List ℕ → Type 0
 ShapeDone s n b lent r left = TurnDone (shape_reply s n b) n b lent r left
-
-abbrev pub refused_at : ℕ → ℕ → Taken
-refused_at n k = record { turn = Refused k; count = n }

@@ -2,8 +2,7 @@
 use Rattle.std.specs.Prelude.{ℕ, List, length}
 use Rattle.serial_rules.specs.Call.{Carrier}
 use Rattle.serial_rules.specs.Reply.{reply_number, reply_encoding}
-use Rattle.fields.specs.Promise.{WriterDone}
-use Rattle.fields.specs.declared.Written.{Written}
+use Rattle.fields.specs.Promise.{Written, WriterDone}
 use Rattle.kind.specs.Kinds.{kind_for}
 use Rattle.kind.specs.declared.CallKind.{CallKind}
 use Rattle.reply.specs.Promise.{reply_for}

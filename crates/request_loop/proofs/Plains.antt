@@ -6,6 +6,7 @@ use native.Mathlib.Omega.{arith}
 use mathlib.Core.Path.{◌≡◌, refl, sym, ap, subst, ◌∙◌}
 use mathlib.Core.Bool.{Bool, true, false}
 use mathlib.Core.List.{List, [], ◌∷◌, ◌++◌, append_assoc, append-nil}
+use Rattle.std.specs.Prelude.{Ok}
 use lib.ListN.{length, get_or, take, drop, set, replicate, length-append, length-drop, length-set}
 use lib.Seq.{length-take-le, get_or-take, sets}
 use borrow.Author.Tests.{lt-ltb}
@@ -54,8 +55,8 @@ module _ (r : Reader) (ok : inside_limits r ≡ true) where
   mid_step g b lent fits room turn p =
       let w = mid_limits g (omega arith) in
       let same : mid r (g + 1) ≡ mid r (suc g) = rw (add-one g) in
-      at_inside (mid r g) lent b (rw w)
-      (inside_data (mid r g) lent (data_in_itself (carrier_of r.carrier) b p) (data_goes (mid r g) lent b w room fits turn (rw same)))
+      at_inside (mid r g) lent b (Ok (record { answer = More; reader = mid r (suc g) })) (rw w)
+      (inside_data (mid r g) lent (Ok (record { answer = More; reader = mid r (suc g) })) (data_in_itself (carrier_of r.carrier) b p) (data_goes (mid r g) lent b w room fits turn (rw same))) refl
 
   -- behind the bytes s of the body the plain bytes ys have come, and xs come
   mid_steps : (s ys xs : List ℕ) (n g : ℕ) (lent : List ℕ) → AheadDone r.code s n → length s < longest_body r.code → take g lent ≡ s ++ ys → g ≡ length s + length ys

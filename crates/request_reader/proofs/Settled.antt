@@ -17,6 +17,7 @@ use Rattle.serial_rules.specs.Reader as rules
 use Rattle.serial_rules.proofs.Lent.{turn_length}
 use Rattle.serial_rules.proofs.Trip.{and_both}
 use Rattle.carrier.specs.Carriers.{carrier_of}
+use Rattle.refusal.specs.Refusals.{refusal_at}
 use Rattle.request_reader.specs.View.{body_room, limits_in, placed, view_of, answer_for, piece_lent, lent_after, StepDone}
 use Rattle.request_reader.specs.declared.Phase.{Phase}
 use Rattle.request_reader.specs.declared.Phase.TheVariants.{Outside, Inside, Stopped}
@@ -136,7 +137,7 @@ settled {r} {lent} {left} {end} {x} {o} {p} whole d f = (rw (answers, by (view_o
     next : (y : rules.Reader) → (view_of r lent ≡ rules.stopped → ⊥) → (rules.step (carrier_of r.carrier) (view_of r lent) x).next ≡ y → o.reader ≡ p.reader
     next rules.stopped runs e =
         let n = step_refuses (carrier_of r.carrier) (view_of r lent) x e in
-        d.stops n.0 runs (d.answer_is ∙ ap answer_for n.1) ∙ sym (f.stops n.0 runs (f.answer_is ∙ ap answer_for n.1))
+        d.stops (refusal_at n.0) runs (d.answer_is ∙ ap answer_for n.1) ∙ sym (f.stops (refusal_at n.0) runs (f.answer_is ∙ ap answer_for n.1))
     next (rules.outside s) runs e = same (rules.outside s) e live_outside
     next (rules.inside s style code b) runs e = same (rules.inside s style code b) e live_inside
 

@@ -13,6 +13,8 @@ use Rattle.request_reader.specs.declared.Reader.{Reader}
 use Rattle.request_reader.specs.declared.Answer.{Answer}
 use Rattle.request_reader.specs.declared.Answer.TheVariants.{More, Character, Request, Refused}
 use Rattle.request_reader.specs.declared.Stepped.{Stepped}
+use Rattle.refusal.specs.declared.Refusal.{Refusal}
+use Rattle.refusal.specs.Refusals.{number, refusal_at}
 
 -- how many bytes are lent for a body
 abbrev pub body_room : ℕ
@@ -52,14 +54,14 @@ abbrev pub answer_of : Answer → List ℕ → rules.Answer
 answer_of More lent = rules.need_more
 answer_of (Character b) lent = rules.character b
 answer_of (Request style code n) lent = rules.request style code (take n lent)
-answer_of (Refused n) lent = rules.refusal n
+answer_of (Refused r) lent = rules.refusal (number r)
 
 -- the program's answer to one of the rules: a finished request tells how long its body is
 abbrev pub answer_for : rules.Answer → Answer
 answer_for rules.need_more = More
 answer_for (rules.character b) = Character b
 answer_for (rules.request style code s) = Request style code (length s)
-answer_for (rules.refusal n) = Refused n
+answer_for (rules.refusal n) = Refused (refusal_at n)
 
 -- every lent byte after a raw byte: a data byte that the body takes stands behind the bytes so far, and no other byte changes
 abbrev pub piece_lent : List ℕ → ℕ → List ℕ → escape.Piece → List ℕ
@@ -89,4 +91,4 @@ pub record StepDone (reader : Reader) (lent : List ℕ) (raw : ℕ) (r : Stepped
   pub carrier : r.reader.carrier ≡ reader.carrier
   -- a stopped reader is unchanged; any other refusal leaves the record given, stopped
   pub kept : view_of reader lent ≡ rules.stopped → r.reader ≡ reader
-  pub stops : (n : ℕ) → (view_of reader lent ≡ rules.stopped → ⊥) → r.answer ≡ Refused n → r.reader ≡ stopped_from reader
+  pub stops : (n : Refusal) → (view_of reader lent ≡ rules.stopped → ⊥) → r.answer ≡ Refused n → r.reader ≡ stopped_from reader

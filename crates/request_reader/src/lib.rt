@@ -1,19 +1,21 @@
 // The stepwise reader of requests: one raw byte at a time, the body so far in bytes that the caller lends.
 #![tactic(auto)]
 
-ghost use Rattle.std.specs.Prelude.{◌≡◌, true, length};
+ghost use Rattle.std.specs.Prelude.{◌≡◌, true};
 ghost use Rattle.escape.specs.Layer.{piece_for};
 ghost use Rattle.serial_rules.specs.Reader.{piece_outside, piece_inside, starts};
 ghost use Rattle.serial_rules.specs.Escape.{mark, data_byte};
 ghost use Rattle.carrier.specs.Carriers.{carrier_of};
-ghost use Rattle.request_reader.specs.View.{body_room, outside_limits, inside_limits, standing_of, fresh, StepDone};
-ghost use Rattle.request_reader.specs.Parts.{refused_from, resting_from, going_from, OutsideDone, InsideDone};
+ghost use Rattle.request_reader.specs.View.{outside_limits, inside_limits, standing_of, fresh, StepDone};
+ghost use Rattle.request_reader.specs.Parts.{settled, resting_from, going_from, OutsideDone, InsideDone};
 
 use carrier::Carrier;
 use escape::Piece;
+use marks::Class;
+use refusal::Refusal;
 use turns::Turn;
 
-#[derive(Clone, Copy)]
+#[derive(Clone, Copy, PartialEq, Eq, Debug)]
 pub enum Phase {
     Outside,
     Inside,
@@ -22,7 +24,7 @@ pub enum Phase {
 
 // A reader. The body so far is the first `count` bytes of the lent body; outside a request style, code and count are 0. A record over its
 // limits counts as stopped.
-#[derive(Clone, Copy)]
+#[derive(Clone, Copy, PartialEq, Eq, Debug)]
 pub struct Reader {
     pub carrier: Carrier,
     pub phase: Phase,
@@ -33,16 +35,16 @@ pub struct Reader {
 }
 
 // What a raw byte gives: more is needed; a character; a finished request, whose body is the first `length` bytes of the lent body; or
-// a refusal by document 01's number.
-#[derive(Clone, Copy)]
+// a refusal.
+#[derive(Clone, Copy, PartialEq, Eq, Debug)]
 pub enum Answer {
     More,
     Character(u8),
     Request { style: u8, code: u8, length: u16 },
-    Refused(u8),
+    Refused(Refusal),
 }
 
-#[derive(Clone, Copy)]
+#[derive(Clone, Copy, PartialEq, Eq, Debug)]
 pub struct Stepped {
     pub answer: Answer,
     pub reader: Reader,
@@ -56,7 +58,7 @@ impl Reader {
         ensures { result ≡ fresh carrier }
     {
         Reader {
-            carrier: carrier,
+            carrier,
             phase: Phase::Outside,
             escape: false,
             style: 0,
@@ -69,22 +71,20 @@ impl Reader {
     pub fn reset(self) -> Reader
         ensures { result ≡ fresh self.carrier }
     {
-        let carrier = self.carrier;
-        Reader::new(carrier)
+        Reader::new(self.carrier)
     }
 
     // One raw byte.
     pub fn step(self, raw: u8, body: &mut [u8; Reader::BODY]) -> Stepped
         ensures { StepDone self body.old raw result body.new }
     {
-        let standing = self.standing();
-        match standing {
+        match self.standing() {
+            Phase::Outside => self.settled(self.outside_step(raw)),
+            Phase::Inside => self.settled(self.inside_step(raw, body)),
             Phase::Stopped => Stepped {
-                answer: Answer::Refused(7),
+                answer: Answer::Refused(Refusal::Stopped),
                 reader: self,
             },
-            Phase::Outside => self.outside_step(raw),
-            Phase::Inside => self.inside_step(raw, body),
         }
     }
 
@@ -92,21 +92,10 @@ impl Reader {
     fn standing(self) -> Phase
         ensures { result ≡ standing_of self }
     {
-        let phase = self.phase;
-        match phase {
-            Phase::Outside => {
-                if self.keeps_outside_limits() {
-                    return Phase::Outside;
-                }
-                Phase::Stopped
-            }
-            Phase::Inside => {
-                if self.keeps_inside_limits() {
-                    return Phase::Inside;
-                }
-                Phase::Stopped
-            }
-            Phase::Stopped => Phase::Stopped,
+        match self.phase {
+            Phase::Outside if self.keeps_outside_limits() => Phase::Outside,
+            Phase::Inside if self.keeps_inside_limits() => Phase::Inside,
+            _ => Phase::Stopped,
         }
     }
 
@@ -114,157 +103,125 @@ impl Reader {
     fn keeps_outside_limits(self) -> bool
         ensures { result ≡ outside_limits self }
     {
-        if self.style != 0 {
-            return false;
-        }
-        if self.code != 0 {
-            return false;
-        }
-        self.count == 0
+        self.style == 0 && self.code == 0 && self.count == 0
     }
 
     // Whether the style is one of the carrier's, and the body has room for a byte.
+    #[tactic(auto, unfolding(crate::specs::View::inside_limits))]
     fn keeps_inside_limits(self) -> bool
         ensures { result ≡ inside_limits self }
     {
-        let carrier = self.carrier;
-        if carrier.has_style(self.style) {
-            let count = self.count as usize;
-            return count < bodies::longest_body(self.code);
+        self.carrier.has_style(self.style)
+            && (self.count as usize) < bodies::longest_body(self.code)
+    }
+
+    // What a step leaves: a refusal leaves the record given, stopped.
+    fn settled(self, stepped: Result<Stepped, Refusal>) -> Stepped
+        ensures { result ≡ settled self stepped }
+    {
+        match stepped {
+            Ok(stepped) => stepped,
+            Err(refusal) => Stepped {
+                answer: Answer::Refused(refusal),
+                reader: Reader {
+                    phase: Phase::Stopped,
+                    ..self
+                },
+            },
         }
-        false
     }
 
     // A raw byte outside a request.
-    fn outside_step(self, raw: u8) -> Stepped
+    fn outside_step(self, raw: u8) -> Result<Stepped, Refusal>
         ensures { OutsideDone self (piece_outside (carrier_of self.carrier) self.escape raw) result }
     {
-        let carrier = self.carrier;
-        let piece = outside_piece(carrier, self.escape, raw);
-        match piece {
-            Piece::Pending => self.resting(true, Answer::More),
-            Piece::Data(b) => self.resting(false, Answer::Character(b)),
+        match outside_piece(self.carrier, self.escape, raw) {
+            Piece::Pending => Ok(self.resting(true, Answer::More)),
+            Piece::Data(b) => Ok(self.resting(false, Answer::Character(b))),
             Piece::Mark(m) => self.mark_step(m),
         }
     }
 
     // A mark outside a request: its upper bits are the style, its lower five the code.
-    fn mark_step(self, m: u8) -> Stepped
+    fn mark_step(self, m: u8) -> Result<Stepped, Refusal>
         ensures { OutsideDone self (mark m) result }
     {
-        let carrier = self.carrier;
-        if starts_request(carrier, m) {
-            let style = m / 32;
-            let code = m % 32;
-            if code == 0 {
-                return self.resting(
-                    false,
-                    Answer::Request {
-                        style: style,
-                        code: 0,
-                        length: 0,
-                    },
-                );
-            }
-            return self.going(false, style, code, 0);
+        if !starts_request(self.carrier, m) {
+            return Err(Refusal::NotCarried);
         }
-        self.refused(4)
+        let style = m / 32;
+        let code = m % 32;
+        if code == 0 {
+            let request = Answer::Request {
+                style,
+                code,
+                length: 0,
+            };
+            return Ok(self.resting(false, request));
+        }
+        Ok(self.going(false, style, code, 0))
     }
 
     // A raw byte inside a request.
-    fn inside_step(self, raw: u8, body: &mut [u8]) -> Stepped
-        requires { (inside_limits self ≡ true) × (length body.old ≡ body_room) }
+    fn inside_step(self, raw: u8, body: &mut [u8; Reader::BODY]) -> Result<Stepped, Refusal>
+        requires { inside_limits self ≡ true }
         ensures { InsideDone self body.old (piece_inside (carrier_of self.carrier) self.escape raw) result body.new }
     {
-        let carrier = self.carrier;
-        let piece = inside_piece(carrier, self.escape, raw);
-        match piece {
-            Piece::Pending => self.going(true, self.style, self.code, self.count),
-            Piece::Mark(_) => self.refused(5),
+        match inside_piece(self.carrier, self.escape, raw) {
+            Piece::Pending => Ok(self.going(true, self.style, self.code, self.count)),
+            Piece::Mark(_) => Err(Refusal::Misplaced),
             Piece::Data(b) => self.data_step(b, body),
         }
     }
 
     // A data byte of the body.
-    fn data_step(self, b: u8, body: &mut [u8]) -> Stepped
-        requires { (inside_limits self ≡ true) × (length body.old ≡ body_room) }
+    fn data_step(self, b: u8, body: &mut [u8; Reader::BODY]) -> Result<Stepped, Refusal>
+        requires { inside_limits self ≡ true }
         ensures { InsideDone self body.old (data_byte b) result body.new }
     {
-        let style = self.style;
-        let code = self.code;
-        let count = self.count;
-        let at = count as usize;
-        let turn = bodies::body_turn(code, &body[..at], b);
+        let at = self.count as usize;
+        let turn = bodies::body_turn(self.code, &body[..at], b)?;
+        body[at] = b;
+        let length = self.count + 1;
         match turn {
-            Turn::Refused(n) => self.refused(n),
-            Turn::More => {
-                body[at] = b;
-                self.going(false, style, code, count + 1)
-            }
+            Turn::More => Ok(self.going(false, self.style, self.code, length)),
             Turn::Done => {
-                body[at] = b;
-                self.resting(
-                    false,
-                    Answer::Request {
-                        style: style,
-                        code: code,
-                        length: count + 1,
-                    },
-                )
+                let request = Answer::Request {
+                    style: self.style,
+                    code: self.code,
+                    length,
+                };
+                Ok(self.resting(false, request))
             }
-        }
-    }
-
-    // A refusal: the record given, stopped.
-    fn refused(self, n: u8) -> Stepped
-        ensures { result ≡ refused_from self n }
-    {
-        let carrier = self.carrier;
-        Stepped {
-            answer: Answer::Refused(n),
-            reader: Reader {
-                carrier: carrier,
-                phase: Phase::Stopped,
-                escape: self.escape,
-                style: self.style,
-                code: self.code,
-                count: self.count,
-            },
         }
     }
 
     // An answer that leaves the reader outside a request.
-    fn resting(self, seen: bool, answer: Answer) -> Stepped
-        ensures { result ≡ resting_from self seen answer }
+    fn resting(self, escape: bool, answer: Answer) -> Stepped
+        ensures { result ≡ resting_from self escape answer }
     {
-        let carrier = self.carrier;
         Stepped {
-            answer: answer,
+            answer,
             reader: Reader {
-                carrier: carrier,
-                phase: Phase::Outside,
-                escape: seen,
-                style: 0,
-                code: 0,
-                count: 0,
+                escape,
+                ..Reader::new(self.carrier)
             },
         }
     }
 
     // More is needed inside a request.
-    fn going(self, seen: bool, style: u8, code: u8, count: u16) -> Stepped
-        ensures { result ≡ going_from self seen style code count }
+    fn going(self, escape: bool, style: u8, code: u8, count: u16) -> Stepped
+        ensures { result ≡ going_from self escape style code count }
     {
-        let carrier = self.carrier;
         Stepped {
             answer: Answer::More,
             reader: Reader {
-                carrier: carrier,
                 phase: Phase::Inside,
-                escape: seen,
-                style: style,
-                code: code,
-                count: count,
+                escape,
+                style,
+                code,
+                count,
+                ..self
             },
         }
     }
@@ -291,16 +248,12 @@ fn inside_piece(carrier: Carrier, seen: bool, raw: u8) -> Piece
 }
 
 // Whether a mark, or on the parallel side a plain code, starts a request.
+#[tactic(auto, unfolding(serial_rules::specs::Marks::outward_class))]
 fn starts_request(carrier: Carrier, m: u8) -> bool
     ensures { result ≡ starts (carrier_of carrier) m }
 {
     match carrier {
-        Carrier::Serial => marks::outward_class(m) == 1,
-        Carrier::Parallel => {
-            if m % 2 == 1 {
-                return false;
-            }
-            m <= 0x16
-        }
+        Carrier::Serial => matches!(marks::outward_class(m), Class::Request),
+        Carrier::Parallel => m % 2 == 0 && m <= 0x16,
     }
 }

@@ -6,19 +6,19 @@ use mathlib.Core.List.{List}
 use borrow.Author.Tests.{lt-ltb, le-ltb, not-true, not-false}
 use lib.Dec.{ltb}
 use lib.ListN.{length}
+use Rattle.std.specs.Prelude.{Err}
 use Rattle.serial_rules.specs.Call.{Carrier, string_limit, call_ok, style_ok, encoding_of, writer_number}
 use Rattle.serial_rules.specs.Call as rules
 use Rattle.serial_rules.proofs.Trip.{and_both}
 use Rattle.carrier.specs.declared.Carrier as program
 use Rattle.carrier.specs.Carriers.{carrier_of}
-use Rattle.fields.specs.declared.Written.{Written}
-use Rattle.fields.specs.declared.Written.TheVariants.{TooLong, BadField}
-use Rattle.fields.specs.Promise.{Encoded}
+use Rattle.refusal.specs.declared.Refusal.TheVariants.{TooLong, BadField}
+use Rattle.fields.specs.Promise.{Written, Encoded}
 use Rattle.calls.specs.declared.Call.{Call}
 use Rattle.calls.specs.declared.Row.{Row}
 use Rattle.calls.specs.Calls.{call_of}
 use Rattle.calls.specs.Rows.{length_byte, given_ok, row_of, row_raw, Writable}
-use Rattle.calls.proofs.Rows.{rules_same, row_code, row_before, row_behind, row_encoding}
+use Rattle.calls.proofs.Rows.{rules_same, row_code, row_encoding}
 use Rattle.request_writer.specs.Promise.{RequestDone}
 
 -- The number of the answer after each check.
@@ -36,7 +36,7 @@ module _ (carrier : Carrier) (style : ℕ) (call : rules.Call) (b t : List ℕ) 
   unfolding writer_number
   Accepted h ok = simp (le-ltb _ _ h, ok)
 
-pub too_long : (carrier : Carrier) (style : ℕ) (call : Call) (b t out : List ℕ) → string_limit < length t → RequestDone carrier style call b t out TooLong out
+pub too_long : (carrier : Carrier) (style : ℕ) (call : Call) (b t out : List ℕ) → string_limit < length t → RequestDone carrier style call b t out (Err TooLong) out
 too_long carrier style call b t out h = rw (long_number carrier style (call_of call) b t (length out) h) (record { answer = refl; written = refl; bytes = refl })
 
 -- After the first check, with the call's row and what was found of all that is given.
@@ -45,7 +45,7 @@ module _ (carrier : program.Carrier) (style : ℕ) (call : Call) (b t out : List
   judged : ok ≡ (style_ok (carrier_of carrier) style && call_ok (call_of call) b t)
   judged = rw (d, byte, rules_same (call_of call) b t) at e
 
-  pub bad_field : not ok ≡ true → RequestDone (carrier_of carrier) style call b t out BadField out
+  pub bad_field : not ok ≡ true → RequestDone (carrier_of carrier) style call b t out (Err BadField) out
   bad_field h =
       rw (bad_number (carrier_of carrier) style (call_of call) b t (length out) short (sym judged ∙ not-true ok h)) (record { answer = refl; written = refl; bytes = refl })
 
@@ -57,9 +57,12 @@ module _ (carrier : program.Carrier) (style : ℕ) (call : Call) (b t out : List
     kept = and_both (style_ok (carrier_of carrier) style) (call_ok (call_of call) b t) all_ok
 
     pub writable : Writable carrier style row
-    writable = rw d (record { style_kept = kept.0; code_small = row_code (call_of call) n; before_fits = row_before (call_of call) n; behind_fits = row_behind (call_of call) n })
+    writable = rw d (record { style_kept = kept.0; code_small = row_code (call_of call) n })
 
     pub encoded : {w : Written} {left : List ℕ} → Encoded (row_raw carrier style row b t) out w left → RequestDone (carrier_of carrier) style call b t out w left
     encoded w =
         rw (Accepted (carrier_of carrier) style (call_of call) b t (length out) short all_ok)
         (rw (d, byte, row_encoding (call_of call) b t carrier style kept.1) at w)
+
+-- what the writer needs
+pub ruleset answers = (too_long, bad_field, writable)

@@ -1,8 +1,7 @@
 -- What the request writer promises, of the carrier, the request, the lent bytes before and after, and its result.
 use Rattle.std.specs.Prelude.{ℕ, List, length}
 use Rattle.serial_rules.specs.Call.{Carrier, encoding_of, writer_number}
-use Rattle.fields.specs.declared.Written.{Written}
-use Rattle.fields.specs.Promise.{WriterDone}
+use Rattle.fields.specs.Promise.{Written, WriterDone}
 use Rattle.calls.specs.declared.Call.{Call}
 use Rattle.calls.specs.Calls.{call_of}
 

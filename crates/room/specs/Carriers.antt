@@ -1,5 +1,6 @@
 -- The raw bytes of data bytes on a carrier of the program.
-use Rattle.std.specs.Prelude.{ℕ, List, ◌++◌}
+use Rattle.std.specs.Prelude.{ℕ, List, [], ◌∷◌, ◌++◌}
+use Rattle.std.specs.Borrow.{Bor}
 use Rattle.serial_rules.specs.Escape.{escapes}
 use Rattle.serial_rules.specs.Call.{carried}
 use Rattle.carrier.specs.declared.Carrier.{Carrier}
@@ -15,6 +16,11 @@ unfoldable pub added_on : Carrier → List ℕ → ℕ
 added_on Serial l = escapes l
 added_on Parallel l = 0
 
--- the raw bytes of a heading and four fields
-abbrev pub parts_raw : Carrier → List ℕ → List ℕ → List ℕ → List ℕ → List ℕ → List ℕ
-parts_raw carrier h a b c d = h ++ coded carrier (a ++ (b ++ (c ++ d)))
+-- the fields, one behind the other
+abbrev pub joined : List (Bor (List ℕ)) → List ℕ
+joined [] = []
+joined (f ∷ fs) = f.now ++ joined fs
+
+-- the raw bytes of a heading and fields
+abbrev pub parts_raw : Carrier → List ℕ → List (Bor (List ℕ)) → List ℕ
+parts_raw carrier h fs = h ++ coded carrier (joined fs)

@@ -8,11 +8,12 @@ ghost use Rattle.turns.specs.Turns.{turn_of};
 ghost use Rattle.shapes.specs.Shapes.{shape_for, longest_shape};
 ghost use Rattle.shapes.specs.Ahead.{ahead_of};
 
+use refusal::Refusal;
 use strings::Text;
 use turns::Turn;
 
 // How bytes that belong together end: so many of them; a line behind one byte; a text behind one number.
-#[derive(Clone, Copy)]
+#[derive(Clone, Copy, PartialEq, Eq, Debug)]
 pub enum Shape {
     Fixed(u8),
     Line,
@@ -29,28 +30,28 @@ impl Shape {
     {
         match self {
             Shape::Fixed(n) => n as usize,
-            Shape::Line => Shape::LONGEST,
-            Shape::Text => Shape::LONGEST,
+            Shape::Line | Shape::Text => Shape::LONGEST,
         }
     }
 
-    // How many bytes behind the first n need more, whatever they are but an escape or a return.
+    // How many bytes behind the first n need more, whatever they are but an escape or a return. The first byte of a line may end it.
     pub fn ahead(self, n: usize) -> usize
         ensures { (result ≡ ahead_of (shape_for self) n) × (n < longest (shape_for self) → n + result ≤ longest_shape) }
     {
         match self {
             Shape::Fixed(k) => before_last(n, k as usize),
-            Shape::Line => line_ahead(n),
-            Shape::Text => 0,
+            Shape::Line if n != 0 => before_last(n, Shape::LONGEST),
+            Shape::Line | Shape::Text => 0,
         }
     }
 
     // The byte b after n bytes.
-    pub fn turn(self, n: usize, b: u8) -> Turn
+    #[tactic(auto, unfolding(serial_rules::specs::Reply::shape_turn))]
+    pub fn turn(self, n: usize, b: u8) -> Result<Turn, Refusal>
         ensures { turn_of result ≡ shape_turn (shape_for self) n b }
     {
         match self {
-            Shape::Fixed(k) => counted_turn(n, k as usize),
+            Shape::Fixed(k) => Ok(turns::fixed_turn(n, (k as usize).saturating_sub(1))),
             Shape::Line => line_turn(n, b),
             Shape::Text => text_turn(n, b),
         }
@@ -61,57 +62,35 @@ impl Shape {
 fn before_last(n: usize, k: usize) -> usize
     ensures { result ≡ k - 1 - n }
 {
-    if n < k {
-        return k - 1 - n;
-    }
-    0
-}
-
-// The same of a line, whose first byte may end it.
-fn line_ahead(n: usize) -> usize
-    ensures { result ≡ ahead_of line n }
-{
-    if n == 0 {
-        return 0;
-    }
-    before_last(n, Shape::LONGEST)
-}
-
-// The byte at index n of k bytes.
-fn counted_turn(n: usize, k: usize) -> Turn
-    ensures { turn_of result ≡ fixed_turn n (k - 1) }
-{
-    if k == 0 {
-        return Turn::Done;
-    }
-    turns::fixed_turn(n, k - 1)
+    k.saturating_sub(1).saturating_sub(n)
 }
 
 // A byte of a line. Bit 7 of the first one says that there is none.
-fn line_turn(n: usize, b: u8) -> Turn
+#[tactic(auto, unfolding(serial_rules::specs::Reply::shape_turn))]
+fn line_turn(n: usize, b: u8) -> Result<Turn, Refusal>
     ensures { turn_of result ≡ shape_turn line n b }
 {
-    if n == 0 {
-        if b / 128 % 2 == 1 {
-            return Turn::Done;
-        }
-        return Turn::More;
+    if n != 0 {
+        turns::string_turn(n - 1, b)
+    } else if b / 128 % 2 == 1 {
+        Ok(Turn::Done)
+    } else {
+        Ok(Turn::More)
     }
-    turns::string_turn(n - 1, b)
 }
 
 // A byte of a text behind its number; &00 ends it.
-fn text_turn(n: usize, b: u8) -> Turn
+#[tactic(auto, unfolding(serial_rules::specs::Reply::shape_turn))]
+fn text_turn(n: usize, b: u8) -> Result<Turn, Refusal>
     ensures { turn_of result ≡ shape_turn text n b }
 {
     if n == 0 {
-        return Turn::More;
+        Ok(Turn::More)
+    } else if b == Text::ZERO {
+        Ok(Turn::Done)
+    } else if n <= Text::LIMIT {
+        Ok(Turn::More)
+    } else {
+        Err(Refusal::TooLong)
     }
-    if b == 0 {
-        return Turn::Done;
-    }
-    if n - 1 < Text::LIMIT {
-        return Turn::More;
-    }
-    Turn::Refused(6)
 }

@@ -5,6 +5,7 @@ use native.Mathlib.Nat.{add-zero, zero-add}
 use native.Mathlib.Omega.{arith}
 use mathlib.Core.Path.{◌≡◌, refl, sym, ap, subst, ◌∙◌}
 use mathlib.Core.Bool.{Bool, true, false, not, ◌||◌, or_assoc, or-false}
+use Rattle.std.specs.Prelude.{Ok, Err}
 use mathlib.Core.List.{List, [], ◌∷◌, ◌++◌}
 use borrow.Author.Tests.{eqb-true, eq-eqb, ne_eqb, le-leb, lt-leb, not-true}
 use lib.Dec.{eqb}
@@ -15,15 +16,15 @@ use Rattle.serial_rules.specs.Session.{has_zero}
 use Rattle.serial_rules.specs.Fields.{fields_of, last}
 use Rattle.serial_rules.proofs.Finished.{RequestRewritten}
 use Rattle.serial_rules.proofs.Trip.{and_both, or_false as both_false}
-use Rattle.strings.specs.declared.Text.TheVariants.{Found, Refused}
+use Rattle.refusal.specs.declared.Refusal.TheVariants.{TooLong, BadField}
 use Rattle.strings.specs.Text.{string_from, name_of, has_byte}
 
 module _ (t : List ℕ) (i : ℕ) where
-  pub ends_here : i < length t → get_or t i 0 ≡ return → string_from i (drop i t) ≡ Found i
+  pub ends_here : i < length t → get_or t i 0 ≡ return → string_from i (drop i t) ≡ Ok i
   unfolding string_from
   ends_here h e = rw (drop-cons t i 0 h, eq-eqb _ _ e)
 
-  pub too_long : i < length t → (get_or t i 0 ≡ return → ⊥) → string_limit ≤ i → string_from i (drop i t) ≡ Refused 6
+  pub too_long : i < length t → (get_or t i 0 ≡ return → ⊥) → string_limit ≤ i → string_from i (drop i t) ≡ Err TooLong
   unfolding string_from
   too_long h n l = rw (drop-cons t i 0 h, ne_eqb _ _ n, le-leb _ _ l)
 
@@ -31,7 +32,7 @@ module _ (t : List ℕ) (i : ℕ) where
   unfolding string_from
   goes_on h n l = rw (drop-cons t i 0 h, ne_eqb _ _ n, lt-leb _ _ l, add-one)
 
-  pub not_ended : length t ≤ i → string_from i (drop i t) ≡ Refused 9
+  pub not_ended : length t ≤ i → string_from i (drop i t) ≡ Err BadField
   unfolding string_from
   not_ended h = rw (drop_of_length-le t h)
 
@@ -57,14 +58,14 @@ has_zero_is [] = refl
 has_zero_is (x ∷ t) = ap (λ (h : Bool). eqb x 0 || h) (has_zero_is t)
 
 -- a body that ends inside the block
-pub no_name : (body : List ℕ) → length body < 16 → name_of body ≡ Refused 9
+pub no_name : (body : List ℕ) → length body < 16 → name_of body ≡ Err BadField
 unfolding string_from
 no_name body h =
     let short : length body ≤ 16 = omega (arith, h) in
     rw (drop_of_length-le body short)
 
 -- In a whole body of OSFILE the scan finds the name: after a string without &0D and of at most 255 bytes, its &0D.
-string_found : (n : ℕ) (t rest : List ℕ) → n + length t ≤ string_limit → has_return t ≡ false → string_from n (t ++ (return ∷ rest)) ≡ Found (n + length t)
+string_found : (n : ℕ) (t rest : List ℕ) → n + length t ≤ string_limit → has_return t ≡ false → string_from n (t ++ (return ∷ rest)) ≡ Ok (n + length t)
 unfolding string_from has_return
 string_found n [] rest h clean = rw add-zero
 string_found n (x ∷ t) rest h clean =
@@ -74,15 +75,15 @@ string_found n (x ∷ t) rest h clean =
     let sum : (n + 1) + length t ≡ n + length (x ∷ t) = omega arith in
     rw (c.0, lt-leb _ _ less, ← sum) (string_found (n + 1) t rest next c.1)
 
-pub name_found : (a : ℕ) (b t : List ℕ) → call_ok (osfile a) b t ≡ true → length t ≤ string_limit → name_of (body_of (osfile a) b t) ≡ Found (length t)
+pub name_found : (a : ℕ) (b t : List ℕ) → call_ok (osfile a) b t ≡ true → length t ≤ string_limit → name_of (body_of (osfile a) b t) ≡ Ok (length t)
 unfolding body_of call_ok
 name_found a b t ok h =
     let p = and_both (block_ok (osfile a) (length b)) (not (has_return t)) ok in
     rw (drop_at b (t ++ (return ∷ a ∷ [])) 16 (eqb-true _ _ p.0), ← zero-add (length t)) (string_found 0 t (a ∷ []) (omega (arith, h)) (not-true (has_return t) p.1))
 
 -- and so in every OSFILE that a reader finishes: the name found is the string of its fields
-pub finished_name : (body : List ℕ) → RequestRewritten 0x14 body → name_of body ≡ Found (length (fields_of 0x14 body).text)
+pub finished_name : (body : List ℕ) → RequestRewritten 0x14 body → name_of body ≡ Ok (length (fields_of 0x14 body).text)
 unfolding fields_of
 finished_name body w =
     let f = fields_of 0x14 body in
-    subst (λ (s : List ℕ). name_of s ≡ Found (length f.text)) w.body_is (name_found (last body) f.block f.text w.ok w.short)
+    subst (λ (s : List ℕ). name_of s ≡ Ok (length f.text)) w.body_is (name_found (last body) f.block f.text w.ok w.short)

@@ -1,4 +1,5 @@
 -- The action reader and the body of a transfer, which call each other: one law for each way that they go.
+use Rattle.std.specs.Prelude.{Option, Some, None, Result}
 use Prim.Native.Nat.{ℕ, ◌+◌, ◌≤◌, min}
 use native.Mathlib.Numerals.{add-one}
 use native.Mathlib.Omega.{arith}
@@ -13,17 +14,17 @@ use Rattle.serial_rules.specs.Link as rules
 use Rattle.actions.specs.Actions.{meaning_for}
 use Rattle.actions.specs.declared.Meaning.{Meaning}
 use Rattle.actions.specs.declared.Meaning.TheVariants as meaning
+use Rattle.refusal.specs.declared.Refusal.TheVariants.{BadField}
 use Rattle.answers.specs.declared.Answer.{Answer}
 use Rattle.answers.specs.declared.Answer.TheVariants as variant
 use Rattle.answers.specs.Reports.{transfer_for, report_of}
 use Rattle.notes.specs.declared.Log.{Log}
 use Rattle.notes.specs.Logs.{most_count, AddDone}
 use Rattle.action_bytes.specs.declared.Began.{Began}
+use Rattle.action_bytes.specs.declared.Halt.{Halt}
 use Rattle.action_bytes.specs.Walk.{Went, Body, Act}
 use Rattle.action_bytes.specs.Parts.{BeganHalt, BeganTold, BeganOpens, BeganDone, depth_for}
 use Rattle.action_bytes.proofs.Parts.{ends_more, ends_refused}
-use Rattle.transfers.specs.declared.End as code-end
-use Rattle.transfers.specs.declared.End.TheVariants.{On, Halt}
 use Rattle.transfers.specs.declared.Walked.{Walked}
 use Rattle.transfers.specs.declared.Loads.{Loads}
 use Rattle.transfers.specs.Parts.{went_of, halted_at, going_at, EndedWell, Logged, Gives, BodyDone, ActDone, LoadDone, is_end}
@@ -43,7 +44,7 @@ depth_same (rules.state x) z = refl
 depth_same rules.end z = sym (z refl)
 depth_same (rules.starts a) z = refl
 
-pub begun : (s : List ℕ) (d at m : ℕ) (own : List ℕ) {r q : Began} → (rules.meaning_of m ≡ rules.end → d ≡ 0) → r ≡ q
+pub begun : (s : List ℕ) (d at m : ℕ) (own : List ℕ) {r q : Result Began Halt} → (rules.meaning_of m ≡ rules.end → d ≡ 0) → r ≡ q
     → BeganDone s (depth_for (rules.meaning_of m) d) (min at (length s)) (rules.meaning_of m) own r
     → BeganDone s d (min at (length s)) (rules.meaning_of m) own q
 begun s d at m own {q = q} z e b =
@@ -110,16 +111,16 @@ walk_starts le = record {
 }
 
 end_means : (w : Meaning) → is_end w ≡ true → meaning_for w ≡ rules.end
-end_means meaning.Unknown e = let z : ◌≡◌ {A = ℕ} 0 1 = cc in absurd (omega arith)
-end_means (meaning.State x) e = let z : ◌≡◌ {A = ℕ} 0 1 = cc in absurd (omega arith)
+end_means meaning.Unknown e = cc
+end_means (meaning.State x) e = cc
 end_means meaning.End e = refl
-end_means (meaning.Starts a) e = let z : ◌≡◌ {A = ℕ} 0 1 = cc in absurd (omega arith)
+end_means (meaning.Starts a) e = cc
 
 pub end_not : (w : Meaning) {d : ℕ} → is_end w ≡ false → meaning_for w ≡ rules.end → d ≡ 0
-end_not meaning.Unknown e h = let z : ◌≡◌ {A = ℕ} 0 1 = cc in absurd (omega arith)
-end_not (meaning.State x) e h = let z : ◌≡◌ {A = ℕ} 0 1 = cc in absurd (omega arith)
-end_not meaning.End e h = let z : ◌≡◌ {A = ℕ} 0 1 = cc in absurd (omega arith)
-end_not (meaning.Starts a) e h = let z : ◌≡◌ {A = ℕ} 0 1 = cc in absurd (omega arith)
+end_not meaning.Unknown e h = cc
+end_not (meaning.State x) e h = cc
+end_not meaning.End e h = cc
+end_not (meaning.Starts a) e h = cc
 
 module _ {s : List ℕ} {save : Bool} {d from : ℕ} {notes₀ content₀ : List ℕ} {log₀ : Log} {notes content : List ℕ} {log : Log} {i : ℕ}
     (v : Walking s save d from notes₀ content₀ log₀ notes content log i) where
@@ -160,11 +161,11 @@ module _ {s : List ℕ} {save : Bool} {d from : ℕ} {notes₀ content₀ : List
   walk_ran_out u = over [] (laws.body_gone s d i v.near (transfer_for save) u) ends_more Logged.none (gives_none v.near) v.near (omega arith)
 
   pub walk_saved : {b n : ℕ} {own : List ℕ} → unit_at s i ≡ units.datum b n → save ≡ true
-      → BodyDone s save d from log₀ notes₀ content₀ (halted_at (variant.Refused 9) n log) own notes content
+      → BodyDone s save d from log₀ notes₀ content₀ (halted_at (variant.Refused BadField) n log) own notes content
   walk_saved {b} {n} {own} u e =
       let k = data_near s i u in
-      over [] (subst (λ (x : Bool). Body s (transfer_for x) d i [] (went_of (Halt (variant.Refused 9)) n own)) (sym e) (laws.body_saved s d i v.near u))
-      (ends_refused 9) Logged.none (gives_none (omega arith)) (omega arith) k.1
+      over [] (subst (λ (x : Bool). Body s (transfer_for x) d i [] (went_of (Some (variant.Refused BadField)) n own)) (sym e) (laws.body_saved s d i v.near u))
+      (ends_refused BadField) Logged.none (gives_none (omega arith)) (omega arith) k.1
 
   pub walk_loads : {b n : ℕ} {r : Loads} {notes-left content-left : List ℕ} → unit_at s i ≡ units.datum b n → save ≡ false
       → LoadDone s b n log notes content r notes-left content-left
@@ -194,18 +195,18 @@ module _ {s : List ℕ} {save : Bool} {d from : ℕ} {notes₀ content₀ : List
     a : ActDone s d n (rules.meaning_of m) log notes content r own-left notes-left content-left
     a = at_mark i u b
 
-    pub walk_acts : r.end ≡ On → length notes-left ≡ length notes → length content-left ≡ length content
+    pub walk_acts : r.end ≡ None → length notes-left ≡ length notes → length content-left ≡ length content
         → Walking s save d from notes₀ content₀ log₀ notes-left content-left r.log r.at
     walk_acts e p q =
         let k = mark_near s i u in
         goes a.given
-        (λ h x y. laws.body_act s d i v.near (transfer_for save) u (subst (λ (z : code-end.End). Act s d n (rules.meaning_of m) a.given (went_of z r.at own-left)) e a.says) y)
+        (λ h x y. laws.body_act s d i v.near (transfer_for save) u (subst (λ (z : Option Answer). Act s d n (rules.meaning_of m) a.given (went_of z r.at own-left)) e a.says) y)
         a.logged (a.gives i (omega arith)) (omega (arith, a.far)) a.near p q
 
-    pub walk_halts : {answer : Answer} → r.end ≡ Halt answer → BodyDone s save d from log₀ notes₀ content₀ r own-left notes-left content-left
+    pub walk_halts : {answer : Answer} → r.end ≡ Some answer → BodyDone s save d from log₀ notes₀ content₀ r own-left notes-left content-left
     walk_halts {answer} e =
         let k = mark_near s i u in
         over a.given
-        (subst (λ (z : code-end.End). Body s (transfer_for save) d i a.given (went_of z r.at own-left)) (sym e)
-        (laws.body_halt s d i v.near (transfer_for save) u (subst (λ (z : code-end.End). Act s d n (rules.meaning_of m) a.given (went_of z r.at own-left)) e a.says)))
+        (subst (λ (z : Option Answer). Body s (transfer_for save) d i a.given (went_of z r.at own-left)) (sym e)
+        (laws.body_halt s d i v.near (transfer_for save) u (subst (λ (z : Option Answer). Act s d n (rules.meaning_of m) a.given (went_of z r.at own-left)) e a.says)))
         a.ends a.logged (a.gives i (omega arith)) (omega (arith, a.far)) a.near

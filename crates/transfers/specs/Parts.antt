@@ -1,5 +1,5 @@
 -- What the readers of an action and of the body of a transfer promise.
-use Rattle.std.specs.Prelude.{ℕ, ◌+◌, ◌-◌, ◌≤◌, ◌<◌, ◌≡◌, Bool, true, false, List, [], ◌∷◌, ◌++◌, map, length, take, drop}
+use Rattle.std.specs.Prelude.{ℕ, ◌+◌, ◌-◌, ◌≤◌, ◌<◌, ◌≡◌, Bool, true, false, List, [], ◌∷◌, ◌++◌, map, length, take, drop, Option, Some, None}
 use Rattle.serial_rules.specs.Link as rules
 use Rattle.turns.specs.Plain.{is_data, All}
 use Rattle.actions.specs.declared.Meaning.{Meaning}
@@ -11,25 +11,23 @@ use Rattle.notes.specs.Notes.{Given, adds_all}
 use Rattle.notes.specs.Logs.{Holds, AddDone, AddRunDone}
 use Rattle.action_bytes.specs.Walk.{Went, on, halt, Body, Act}
 use Rattle.action_bytes.specs.Parts.{outcome_of, Ends}
-use Rattle.transfers.specs.declared.End as code-end
-use Rattle.transfers.specs.declared.End.TheVariants.{On, Halt}
 use Rattle.transfers.specs.declared.Walked.{Walked}
 use Rattle.transfers.specs.declared.Loads.{Loads}
 
 -- where a part went, with an error's bytes in `own`
-abbrev pub went_of : code-end.End → ℕ → List ℕ → Went
-went_of On n own = on n
-went_of (Halt a) n own = halt n (outcome_of a [] own)
+abbrev pub went_of : Option Answer → ℕ → List ℕ → Went
+went_of None n own = on n
+went_of (Some a) n own = halt n (outcome_of a [] own)
 
 abbrev pub halted_at : Answer → ℕ → Log → Walked
-halted_at a n log = record { end = Halt a; at = n; log = log }
+halted_at a n log = record { end = Some a; at = n; log = log }
 
 abbrev pub going_at : ℕ → Log → Walked
-going_at n log = record { end = On; at = n; log = log }
+going_at n log = record { end = None; at = n; log = log }
 
-abbrev pub EndedWell : code-end.End → List ℕ → Type 0
-EndedWell On own = Unit
-EndedWell (Halt a) own = Ends a own
+abbrev pub EndedWell : Option Answer → List ℕ → Type 0
+EndedWell None own = Unit
+EndedWell (Some a) own = Ends a own
 
 -- Reports logged one behind the other, whatever was counted and lent: each as `add` does it, and load bytes that join the last note as `add_run` does.
 pub data Logged : Log → List ℕ → List ℕ → List rules.Report → Log → List ℕ → List ℕ → Type 0 where

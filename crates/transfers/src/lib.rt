@@ -12,18 +12,12 @@ use answers::Answer;
 use escape::Unit;
 use link::Link;
 use notes::Log;
+use refusal::Refusal;
 
-// Whether reading goes on, or the answer that ended it.
-#[derive(Clone, Copy)]
-pub enum End {
-    On,
-    Halt(Answer),
-}
-
-// Where a part of the recording led.
-#[derive(Clone, Copy)]
+// Where a part of the recording led, and the answer that ended the reading there, if one did.
+#[derive(Clone, Copy, PartialEq, Eq, Debug)]
 pub struct Walked {
-    pub end: End,
+    pub end: Option<Answer>,
     pub at: usize,
     pub log: Log,
 }
@@ -74,25 +68,23 @@ fn body(
             }
             Unit::Data(b, next) => {
                 if save {
-                    return halted(Answer::Refused(9), next, log);
+                    return halted(Answer::Refused(Refusal::BadField), next, log);
                 }
                 let l = load(b, raw, next, log, own, notes, content);
                 i = l.at;
                 log = l.log;
             }
             Unit::Mark(m, next) => {
-                let meaning = Meaning::of(m);
-                if is_end(meaning) {
-                    let last = log.add(Answer::Ended { save: save }, own, notes, content);
+                if is_end(Meaning::of(m)) {
+                    let last = log.add(Answer::Ended { save }, own, notes, content);
                     return going(next, last);
                 }
                 let w = act(raw, next, m, depth, log, own, notes, content);
-                let end = w.end;
-                match end {
-                    End::Halt(_) => {
+                match w.end {
+                    Some(_) => {
                         return w;
                     }
-                    End::On => {
+                    None => {
                         i = w.at;
                         log = w.log;
                     }
@@ -117,9 +109,13 @@ fn act(
     requires { (depth ≤ 4) × (meaning_of mark ≡ end → depth ≡ 0) }
     ensures { ActDone raw.now depth (min at (length raw.now)) (meaning_of mark) log notes.old content.old result own.new notes.new content.new }
 {
-    let began = action_bytes::begin_action(raw, at, mark, depth, own);
+    let began = match action_bytes::begin_action(raw, at, mark, depth, own) {
+        Ok(began) => began,
+        Err(halt) => {
+            return halted(halt.answer, halt.at, log);
+        }
+    };
     match began {
-        Began::Halt(answer, next) => halted(answer, next, log),
         Began::Told(answer, next) => going(next, log.add(answer, own, notes, content)),
         Began::Opens(save, answer, next) => {
             let opened = log.add(answer, own, notes, content);
@@ -132,20 +128,16 @@ fn halted(answer: Answer, at: usize, log: Log) -> Walked
     ensures { result ≡ halted_at answer at log }
 {
     Walked {
-        end: End::Halt(answer),
-        at: at,
-        log: log,
+        end: Some(answer),
+        at,
+        log,
     }
 }
 
 fn going(at: usize, log: Log) -> Walked
     ensures { result ≡ going_at at log }
 {
-    Walked {
-        end: End::On,
-        at: at,
-        log: log,
-    }
+    Walked { end: None, at, log }
 }
 
 // A byte of load data, and those behind it that join its note.
@@ -174,10 +166,5 @@ fn load(
 fn is_end(meaning: Meaning) -> bool
     ensures { result ≡ is_end meaning }
 {
-    match meaning {
-        Meaning::Unknown => false,
-        Meaning::State(_) => false,
-        Meaning::End => true,
-        Meaning::Starts(_) => false,
-    }
+    matches!(meaning, Meaning::End)
 }

@@ -1,13 +1,15 @@
 -- Runs of plain bytes: the run of what is left, step by step; and the bytes of a run are plain.
-use Prim.Native.Nat.{ℕ, zero, suc, ◌+◌, ◌-◌, ◌≤◌, ◌<◌}
+use Prim.Native.Nat.{ℕ, zero, suc, ◌+◌, ◌-◌, ◌≤◌, ◌<◌, min}
 use native.Mathlib.Nat.{zero-add}
 use native.Mathlib.Numerals.{add-one, unary_clauses}
 use native.Mathlib.Omega.{arith}
 use mathlib.Core.Path.{◌≡◌, refl, sym, ap, ◌∙◌}
 use mathlib.Core.Bool.{Bool, true, false, cond, not}
 use mathlib.Core.List.{List, [], ◌∷◌, ◌++◌, append_assoc}
-use borrow.Author.Tests.{not-true, ltb-false}
-use lib.Dec.{eqb, ltb}
+use borrow.Author.Tests.{not-true, ltb-false, leb-true, leb-false}
+use Rattle.std.specs.List.{prefix_len}
+use Rattle.std.proofs.lemmas.List.{take_min}
+use lib.Dec.{eqb, ltb, leb}
 use lib.ListN.{length, take, drop, get_or, set, length-drop, drop_of_length-le, take-append-drop}
 use lib.Seq.{length-take-le, drop-cons, drop-append-le, drop-drop, sets, sets-eq}
 use Rattle.serial_rules.specs.Escape.{escape, escapes}
@@ -117,6 +119,14 @@ module _ {raw out now : List ℕ} {i : ℕ} (s : Copying raw out now i) where
   pub stopped : i < length raw → plain (get_or raw i 0) ≡ false → PlainDone raw out i now
   stopped h e = record { count = run_stopped s.running h e; bytes = s.put.bytes }
 
+  -- the loop came to the end of the shorter of the two
+  pub over_most : {n : ℕ} → n ≡ min (length raw) (length out) → n ≡ i → PlainDone raw out n now
+  over_most {n} m e = rw e (go (leb (length raw) i) refl)
+    where
+      go : (t : Bool) → leb (length raw) i ≡ t → PlainDone raw out i now
+      go true h = ended (leb-true (length raw) i h)
+      go false h = let l : i < length raw = leb-false (length raw) i h in full (omega arith)
+
   pub one_more : i < length raw → i < length out → plain (get_or raw i 0) ≡ true → Copying raw out (set now i (get_or raw i 0)) (i + 1)
   one_more h k e = record { running = run_more s.running h k e; put = put_next raw h k s.put }
 
@@ -145,6 +155,15 @@ pub sum_fits : (w m count n : ℕ) → m < w → count < w → (0 < n → count 
 sum_fits w m count zero big h k = omega arith
 sum_fits w m count (suc n) big h k = omega (arith, k (omega arith))
 
+-- A run is the longest part at the start whose bytes are all of the kind.
+pub run_is : (p : ℕ → Bool) (n : ℕ) (l : List ℕ) → run_of p n l ≡ prefix_len p (take n l)
+unfolding run_of
+run_is p zero l = refl
+run_is p (suc n) [] = refl
+run_is p (suc n) (b ∷ l) =
+    let more : suc (run_of p n l) ≡ 1 + prefix_len p (take n l) = omega (arith, run_is p n l) in
+    ap (λ (m : ℕ). cond (p b) m 0) more
+
 -- Without an escape byte among them, all are of the run.
 clear : (n : ℕ) (l : List ℕ) → n ≤ length l → escapes (take n l) ≡ 0 → run_of is_data n l ≡ n
 unfolding run_of escapes
@@ -158,3 +177,7 @@ clear (suc n) (b ∷ l) h e = go (eqb b escape) refl (λ k. clear n l (omega ari
 
 pub run_clear : (n : ℕ) (l : List ℕ) {found : Bool} → n ≤ length l → found ≡ ltb 0 (escapes (take n l)) → found ≡ false → n ≡ run_of is_data n l
 run_clear n l h e is = sym (clear n l h (omega (arith, ltb-false 0 (escapes (take n l)) (sym e ∙ is))))
+
+-- a run goes no further than there are bytes
+pub run_within : (p : ℕ → Bool) (n : ℕ) (l : List ℕ) → run_of p (min n (length l)) l ≡ run_of p n l
+run_within p n l = run_is p (min n (length l)) l ∙ ap (prefix_len p) (take_min n l) ∙ sym (run_is p n l)

@@ -2,98 +2,78 @@
 #![tactic(auto)]
 
 ghost use Rattle.std.specs.Prelude.{◌≡◌};
+ghost use Rattle.std.specs.List.{prefix_len};
 ghost use Rattle.serial_rules.specs.Body.{fixed_turn, string_turn};
 ghost use Rattle.turns.specs.Turns.{turn_of};
 ghost use Rattle.turns.specs.Plain.{plain, is_data, run_of, PlainDone};
 
 use escape::Piece;
+use refusal::Refusal;
 use strings::Text;
 
-// What the byte does: more are needed, it is the last, or it is refused with document 01's number.
-#[derive(Clone, Copy)]
+// What a byte that is taken does: more are needed, or it is the last. A byte that is not taken has a refusal in its place.
+#[derive(Clone, Copy, PartialEq, Eq, Debug)]
 pub enum Turn {
     More,
     Done,
-    Refused(u8),
 }
 
 // A byte of a string that ends the whole.
-pub fn string_turn(n: usize, b: u8) -> Turn
+pub fn string_turn(n: usize, b: u8) -> Result<Turn, Refusal>
     ensures { turn_of result ≡ string_turn n b }
 {
     if b == Text::RETURN {
-        return Turn::Done;
+        Ok(Turn::Done)
+    } else if n < Text::LIMIT {
+        Ok(Turn::More)
+    } else {
+        Err(Refusal::TooLong)
     }
-    if n < Text::LIMIT {
-        return Turn::More;
-    }
-    Turn::Refused(6)
 }
 
 // A byte where the last one has the index `last`.
 pub fn fixed_turn(n: usize, last: usize) -> Turn
-    ensures { turn_of result ≡ fixed_turn n last }
+    ensures { turn_of (Ok result) ≡ fixed_turn n last }
 {
-    if n < last {
-        return Turn::More;
-    }
-    Turn::Done
+    if n < last { Turn::More } else { Turn::Done }
 }
 
 // Copies the bytes at the start of `raw` that are neither an escape nor a return, as far as `out` goes; returns how many.
 pub fn copy_plain(raw: &[u8], out: &mut [u8]) -> usize
     ensures { PlainDone raw.now out.old result out.new }
 {
-    let mut i: usize = 0;
-    while i < out.len() {
-        if raw.len() <= i {
-            return i;
-        }
+    let most = raw.len().min(out.len());
+    for i in 0..most {
         let b = raw[i];
         if !is_plain(b) {
             return i;
         }
         out[i] = b;
-        i += 1;
     }
-    i
+    most
 }
 
 // How many bytes at the start of `raw` are not an escape, at most so many. Most often all of them are not, which is tested many bytes at once.
 pub fn data_ahead(raw: &[u8], most: usize) -> usize
     ensures { result ≡ run_of is_data most raw.now }
 {
-    if most <= raw.len() {
-        if !escape::has_escape(&raw[..most]) {
-            return most;
-        }
+    let ahead = &raw[..most.min(raw.len())];
+    if !escape::has_escape(ahead) {
+        return ahead.len();
     }
-    data_before(raw, most)
+    before_escape(ahead)
 }
 
-// The same, byte by byte.
-fn data_before(raw: &[u8], most: usize) -> usize
-    ensures { result ≡ run_of is_data most raw.now }
+// How many bytes stand before the first escape.
+fn before_escape(bytes: &[u8]) -> usize
+    ensures { result ≡ prefix_len is_data bytes.now }
 {
-    let mut i: usize = 0;
-    while i < most {
-        if raw.len() <= i {
-            return i;
-        }
-        if raw[i] == Piece::ESCAPE {
-            return i;
-        }
-        i += 1;
-    }
-    i
+    bytes.iter().take_while(|b| **b != Piece::ESCAPE).count()
 }
 
 // Whether a byte is neither an escape nor a return.
 pub fn is_plain(b: u8) -> bool
     ensures { result ≡ plain b }
 {
-    if b == Piece::ESCAPE {
-        return false;
-    }
-    b != Text::RETURN
+    b != Piece::ESCAPE && b != Text::RETURN
 }

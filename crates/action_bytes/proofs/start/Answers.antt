@@ -1,35 +1,17 @@
 -- A fifth transfer is refused before its own bytes are read.
-use Rattle.action_bytes.specs.Parts.{OwnDone}
+use mathlib.Core.Path.{sym, ◌∙◌}
+use borrow.Author.Rules.{rules}
+use Rattle.std.proofs.lemmas.Result.{err_from_is_err_and}
 use Rattle.action_bytes.proofs.Parts.{fifth_starts, halted_starts, whole_starts}
-use mathlib.Core.Path.{sym, subst, ◌∙◌}
 use Rattle.action_bytes.proofs.start.Goals as goal
 
 pub returns-then-is_fifth : goal.returns-then-is_fifth
-returns-then-is_fifth c =
-    fifth_starts c.args.action c.args.depth
-    c.requires.0 (sym c.is_fifth.ensures ∙ c.if-is_fifth.true)
+returns-then-is_fifth c = fifth_starts c.args.action c.args.depth c.requires.0 (sym c.is_fifth.ensures ∙ c.if-is_fifth.true)
 
-pub returns-in-Halt : goal.returns-in-Halt
-returns-in-Halt c =
-    halted_starts c.args.action
-    c.args.depth (sym
-    c.is_fifth.ensures ∙
-    c.if-is_fifth.false) (subst (OwnDone c.args.raw.now
-    c.args.action
-    c.args.at
-    c.own_bytes-owned.new.own) c.in-Halt.is
-    c.own_bytes-owned.ensures)
+pub returns-in_err-owned : goal.returns-in_err-owned
+returns-in_err-owned c =
+    let p = err_from_is_err_and c.from_residual.result c.from_residual.ensures.1 in
+    rw (p.1, p.2) (halted_starts c.args.action c.args.depth (sym c.is_fifth.ensures ∙ c.if-is_fifth.false) c.in_err-owned.ensures)
 
-pub returns-in-Whole : goal.returns-in-Whole
-returns-in-Whole c =
-    rw (c.finish.ensures, c.told_by.ensures) (whole_starts
-    c.args.depth
-    (c.own_bytes-owned.auto.own ∙
-    c.requires.1)
-    c.args.action (sym
-    c.is_fifth.ensures ∙
-    c.if-is_fifth.false) (subst (OwnDone c.args.raw.now
-    c.args.action
-    c.args.at
-    c.own_bytes-owned.new.own)
-    c.in-Whole.is c.own_bytes-owned.ensures))
+pub returns : goal.returns
+returns c = rw (c.finish.ensures, c.told_by.ensures) (whole_starts c.args.depth (search rules) c.args.action (sym c.is_fifth.ensures ∙ c.if-is_fifth.false) c.in_ok-owned.ensures)

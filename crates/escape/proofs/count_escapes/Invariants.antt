@@ -1,12 +1,10 @@
--- Turn i has counted the escape bytes among the first i, in whole pieces; with those from i on they are all.
-use Prim.Native.Nat.{◌+◌, ◌-◌, ◌≤◌}
-use mathlib.Core.Path.{◌≡◌}
-use lib.ListN.{length, drop}
+-- What has been counted and the escape bytes of the rest are those of all the bytes.
+use Rattle.std.proofs.Common.{◌≡◌, ◌+◌, length}
 use Rattle.serial_rules.specs.Escape.{escapes}
 use Rattle.escape.proofs.count_escapes.Given as goal
 
-abbrev pub invariant-loop-i : goal.invariant-loop-i
-invariant-loop-i l = (l.i ≤ length l.bytes) × (l.n ≤ l.i) × (l.n + escapes (drop l.i l.bytes) ≡ escapes l.bytes)
+abbrev pub invariant-loop-piece : goal.invariant-loop-piece
+invariant-loop-piece l = l.n + escapes l.rest ≡ escapes l.bytes
 
-abbrev pub decreases-loop-i : goal.decreases-loop-i
-decreases-loop-i l = length l.bytes - l.i
+abbrev pub decreases-loop-piece : goal.decreases-loop-piece
+decreases-loop-piece l = length l.rest

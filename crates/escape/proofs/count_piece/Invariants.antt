@@ -1,12 +1,7 @@
--- Turn i has counted the escape bytes among the first i; with those from i on they are all.
-use Prim.Native.Nat.{◌+◌, ◌-◌, ◌≤◌}
-use mathlib.Core.Path.{◌≡◌}
-use lib.ListN.{length, drop}
+-- Turn i has counted the escape bytes among the first i, no more than these; with those from i on they are all.
+use Rattle.std.proofs.Common.{◌≡◌, ◌+◌, ◌≤◌, drop}
 use Rattle.serial_rules.specs.Escape.{escapes}
 use Rattle.escape.proofs.count_piece.Given as goal
 
-abbrev pub invariant-loop-i : goal.invariant-loop-i
-invariant-loop-i l = (l.i ≤ length l.bytes) × (l.n ≤ l.i) × (l.n + escapes (drop l.i l.bytes) ≡ escapes l.bytes)
-
-abbrev pub decreases-loop-i : goal.decreases-loop-i
-decreases-loop-i l = length l.bytes - l.i
+abbrev pub invariant-loop-b : goal.invariant-loop-b
+invariant-loop-b l = (l.n ≤ l.b-index) × (l.n + escapes (drop l.b-index l.bytes) ≡ escapes l.bytes)

@@ -1,12 +1,8 @@
--- Turn i has written the raw bytes of the first i data bytes; the tail has room for those of the next, since the whole fits.
-use Prim.Native.Nat.{◌-◌, ◌≤◌}
-use lib.ListN.{length, take}
+-- Turn i has written the raw bytes of the first i bytes; the rest has room, since the whole fits.
+use Rattle.std.proofs.Common.{drop}
 use Rattle.serial_rules.specs.Escape.{escaped}
-use Rattle.escape.specs.Put.{Put}
+use Rattle.fields.proofs.Going.{Going}
 use Rattle.fields.proofs.put_bytes.Given as goal
 
-abbrev pub invariant-loop-i : goal.invariant-loop-i
-invariant-loop-i l = (l.i ≤ length l.bytes) × Put (escaped (take l.i l.bytes)) l.initial.out l.out l.at
-
-abbrev pub decreases-loop-i : goal.decreases-loop-i
-decreases-loop-i l = length l.bytes - l.i
+abbrev pub invariant-loop-b : goal.invariant-loop-b
+invariant-loop-b l = Going (escaped l.bytes) (escaped (drop l.b-index l.bytes)) l.initial.out l.out l.at

@@ -1,68 +1,20 @@
--- Turn i has written the raw bytes of the first i data bytes, in whole pieces; the tail has room for those of the next, and at the end for the rest.
-use borrow.Author.Rules.{rules}
-use Prim.Native.Nat.{◌+◌, ◌-◌}
-use native.Mathlib.Omega.{arith}
-use mathlib.Core.Path.{sym, ap, ◌∙◌}
-use lib.ListN.{length, take, drop}
-use lib.Seq.{take-length}
-use Rattle.serial_rules.specs.Escape.{escaped}
-use Rattle.escape.proofs.Laws.{put_none, put_length, put_as, put_tail, tail_room}
-use Rattle.fields.proofs.Bytes.{piece_more, piece_room}
+-- The next piece has room in the tail, since the whole fits; its raw bytes are the first of the rest.
+use Rattle.fields.proofs.Going.{going_room, going_more, going_rest, going_done}
+use Rattle.fields.proofs.Laws.{escaped_split}
 use Rattle.fields.proofs.put_eights.Goals as goal
-
-pub loop-i-init : goal.loop-i-init
-unfolding escaped
-loop-i-init c = (search rules, put_none)
-
-pub overflow_add-i : goal.overflow_add-i
-overflow_add-i c = omega (arith, c.loop-i-test.true, c.loop-i.invariant.0)
-
-pub slice_bounds-put_serial-end : goal.slice_bounds-put_serial-end
-slice_bounds-put_serial-end c = omega (arith, c.loop-i-test.true, c.loop-i.invariant.0)
-
-pub slice_bounds-put_serial-count-in-loop-i : goal.slice_bounds-put_serial-count-in-loop-i
-slice_bounds-put_serial-count-in-loop-i c = let h = put_length c.loop-i.invariant.1 in omega (arith, h, c.loop-i.invariant.1.room)
-
-pub slice_bounds-put_serial-start-in-loop-i : goal.slice_bounds-put_serial-start-in-loop-i
-slice_bounds-put_serial-start-in-loop-i c = let h = put_length c.loop-i.invariant.1 in omega (arith, h, c.loop-i.invariant.1.room)
 
 pub put_serial-at-requires : goal.put_serial-at-requires
 put_serial-at-requires c =
-    let bytes = c.args.bytes.now in
-    let i = c.loop-i.i in
-    let h = piece_room bytes i (i + 8) (omega arith) in
-    tail_room (escaped (take (i + 8 - i) (drop i bytes))) c.loop-i.invariant.1 (omega (arith, h, c.requires))
+    let p = c.in-Some.ensures.cases in
+    going_room c.loop-piece.invariant _ _ (escaped_split 8 c.loop-piece.rest.now p.0 p.1) c.requires
 
-pub overflow_add-at : goal.overflow_add-at
-overflow_add-at c = let h = put_tail c.loop-i.invariant.1 c.put_serial-at.ensures in omega (arith, h.room)
+pub loop-piece-preserved : goal.loop-piece-preserved
+loop-piece-preserved c =
+    let p = c.in-Some.ensures.cases in
+    going_more c.loop-piece.invariant _ _ (escaped_split 8 c.loop-piece.rest.now p.0 p.1) c.put_serial-at.ensures
 
-pub loop-i-preserved : goal.loop-i-preserved
-loop-i-preserved c =
-    let i = c.loop-i.i in
-    let e = piece_more c.args.bytes.now i (i + 8) (omega arith) in
-    (omega (arith, c.loop-i-test.true, c.loop-i.invariant.0), put_as (sym e) (put_tail c.loop-i.invariant.1 c.put_serial-at.ensures))
-
-pub slice_bounds-put_bytes-count-2 : goal.slice_bounds-put_bytes-count-2
-slice_bounds-put_bytes-count-2 c = let h = put_length c.loop-i.invariant.1 in omega (arith, h, c.loop-i.invariant.1.room)
-
-pub slice_bounds-put_bytes-start-2 : goal.slice_bounds-put_bytes-start-2
-slice_bounds-put_bytes-start-2 c = let h = put_length c.loop-i.invariant.1 in omega (arith, h, c.loop-i.invariant.1.room)
-
-pub put_bytes-n-requires : goal.put_bytes-n-requires
-put_bytes-n-requires c =
-    let bytes = c.args.bytes.now in
-    let i = c.loop-i.i in
-    let h = piece_room bytes i (length bytes) c.loop-i.invariant.0 in
-    tail_room (escaped (take (length bytes - i) (drop i bytes))) c.loop-i.invariant.1 (omega (arith, h, c.requires))
-
-pub overflow_add-result : goal.overflow_add-result
-overflow_add-result c = let h = put_tail c.loop-i.invariant.1 c.put_bytes-n.ensures in omega (arith, h.room)
-
-pub shape_of-out : goal.shape_of-out
-shape_of-out c = put_length (put_tail c.loop-i.invariant.1 c.put_bytes-n.ensures)
+pub put_bytes-requires : goal.put_bytes-requires
+put_bytes-requires c = going_rest c.loop-piece.invariant c.requires
 
 pub returns : goal.returns
-returns c =
-    let bytes = c.args.bytes.now in
-    let e = piece_more bytes c.loop-i.i (length bytes) c.loop-i.invariant.0 in
-    put_as (sym e ∙ ap escaped (take-length bytes)) (put_tail c.loop-i.invariant.1 c.put_bytes-n.ensures)
+returns c = going_done c.loop-piece.invariant c.put_bytes.ensures

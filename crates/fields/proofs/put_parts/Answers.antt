@@ -1,18 +1,14 @@
--- Two writes, the fields into the tail that the heading leaves, are one, and the whole has room.
-use native.Mathlib.Omega.{arith}
-use lib.ListN.{length-append, length-take, length-drop}
-use Rattle.escape.proofs.Laws.{put_length, put_tail}
+-- The next field has room in the tail, since the whole fits; its raw bytes are the first of the rest.
+use Rattle.fields.proofs.Going.{going_room, going_more, going_all}
+use Rattle.fields.proofs.Laws.{fields_next, fields_end}
 use Rattle.fields.proofs.put_parts.Goals as goal
 
-pub put_plain-at-requires : goal.put_plain-at-requires
-put_plain-at-requires c = let h = simp length-append at c.requires in omega arith
+pub put_data-at-requires : goal.put_data-at-requires
+put_data-at-requires c = going_room c.loop-field.invariant _ _ (fields_next c.args.carrier c.args.fields.now c.loop-field.field-index _ c.loop-field-test.true) c.requires
 
-pub put_four-n-requires : goal.put_four-n-requires
-put_four-n-requires c =
-    let n = put_length c.put_plain-at.ensures in
-    let h = simp length-append at c.requires in
-    simp (length-take, length-drop) (omega (arith, c.put_plain-at.ensures.count))
+pub loop-field-preserved : goal.loop-field-preserved
+loop-field-preserved c =
+    going_more c.loop-field.invariant _ _ (fields_next c.args.carrier c.args.fields.now c.loop-field.field-index _ c.loop-field-test.true) c.put_data-at.ensures
 
--- the fields stand behind the heading
 pub returns : goal.returns
-returns c = put_tail c.put_plain-at.ensures c.put_four-n.ensures
+returns c = going_all c.loop-field.invariant (fields_end c.args.carrier c.args.fields.now c.loop-field.field-index c.loop-field-test.false)

@@ -6,12 +6,8 @@ use Rattle.escape.proofs.Laws.{put_as}
 use Rattle.fields.proofs.Laws.{all_plain, encoded_done, encoded_none}
 use Rattle.fields.proofs.write_data.Goals as goal
 
-pub returns-then-out-bytes : goal.returns-then-out-bytes
-returns-then-out-bytes c = encoded_none (omega (arith, escaped_least c.args.bytes.now, c.if-out-bytes.true))
-
-pub returns-then-out-bytes-2 : goal.returns-then-out-bytes-2
-returns-then-out-bytes-2 c =
-    encoded_none (omega (arith, escaped_length c.args.bytes.now, c.count_escapes-more.ensures, c.if-out-bytes.false, c.if-out-bytes-2.true))
+pub returns-then-spare-more : goal.returns-then-spare-more
+returns-then-spare-more c = encoded_none (omega (arith, escaped_length c.args.bytes.now, c.count_escapes-more.ensures))
 
 pub returns-then-more-eq0 : goal.returns-then-more-eq0
 returns-then-more-eq0 c =
@@ -19,8 +15,7 @@ returns-then-more-eq0 c =
     encoded_done (put_as (sym (all_plain bytes (sym c.count_escapes-more.ensures ∙ c.if-more-eq0.true))) c.put_plain.ensures)
 
 pub put_pieces-requires : goal.put_pieces-requires
-put_pieces-requires c =
-    omega (arith, escaped_length c.args.bytes.now, c.count_escapes-more.ensures, c.if-out-bytes.false, c.if-out-bytes-2.false)
+put_pieces-requires c = omega (arith, escaped_length c.args.bytes.now, c.count_escapes-more.ensures)
 
-pub returns : goal.returns
-returns c = encoded_done c.put_pieces.ensures
+pub returns-in_default : goal.returns-in_default
+returns-in_default c = encoded_none (omega (arith, escaped_least c.args.bytes.now))

@@ -1,10 +1,12 @@
 -- A call goes by its kind; a number that is none is refused before the first byte.
+use Rattle.flat_kind.proofs.Numbers.{kind_known, kind_unknown}
 use Rattle.flat_recorded.proofs.Recordings.{called, not_called_lem}
 use Rattle.flat_recorded.proofs.read_recorded.Goals as goal
 
-pub returns-then-call-le-LAST : goal.returns-then-call-le-LAST
-returns-then-call-le-LAST c =
-    called c.if-call-le-LAST.true c.kind_at-kind.ensures c.read_recorded.ensures c.flat_recorded.ensures
+pub returns-in-Some : goal.returns-in-Some
+returns-in-Some c =
+    let k = kind_known c.args.call c.args.out_length c.in-Some.ensures in
+    called k.0 k.1 c.read_recorded.ensures c.flat_recorded.ensures
 
-pub returns : goal.returns
-returns c = not_called_lem c.if-call-le-LAST.false c.flat_recorded-2.ensures
+pub returns-in-None : goal.returns-in-None
+returns-in-None c = not_called_lem (kind_unknown c.args.call c.args.out_length c.in-None.ensures) c.flat_recorded-in-None.ensures

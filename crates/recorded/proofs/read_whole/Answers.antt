@@ -1,4 +1,7 @@
 -- Turn i has read the first i raw bytes as the rules' machine does.
+use Rattle.std.specs.Prelude.{Ok}
+use borrow.Author.Rules.{rules}
+use Rattle.turns.specs.declared.Turn.{Turn}
 use native.Mathlib.Omega.{arith}
 use mathlib.Core.Path.{sym, ap, ◌∙◌}
 use lib.ListN.{length-set}
@@ -13,7 +16,7 @@ use Rattle.recorded.proofs.Whole.{pass_near, reading_starts, reading_room, readi
 use Rattle.recorded.proofs.read_whole.Goals as goal
 
 pub overflow_sub-last : goal.overflow_sub-last
-overflow_sub-last c = omega (arith, c.longest-last.ensures.0, ap longest c.shape-shape.ensures, c.requires.0)
+overflow_sub-last c = omega (arith, c.longest-last.ensures.0, ap longest c.shape-shape.ensures, c.requires)
 
 pub loop-b-init : goal.loop-b-init
 loop-b-init c =
@@ -21,21 +24,16 @@ loop-b-init c =
       arith,
       c.longest-last.ensures.0,
       ap longest c.shape-shape.ensures,
-      c.requires.0,
+      c.requires,
     )) (omega (
       arith,
       c.longest-last.ensures.0,
       ap longest
           c.shape-shape.ensures,
-      c.requires.0,
+      c.requires,
       c.longest-last.ensures.1,
     ))
-    c.requires.1
-
-pub shape_of-reply-in-Gone : goal.shape_of-reply-in-Gone
-shape_of-reply-in-Gone c =
-    c.loop-b.invariant.reply_size ∙ sym
-    c.requires.1
+    (search rules)
 
 pub shape_of-notes-in-Gone : goal.shape_of-notes-in-Gone
 shape_of-notes-in-Gone c = c.loop-b.invariant.notes_size
@@ -50,27 +48,21 @@ returns-in-Gone c =
     c.shape-shape.ensures) (sym c.unit_at-unit.ensures ∙ ap unit_for
     c.in-Gone.is))
 
-pub shape_of-reply-in-Refused : goal.shape_of-reply-in-Refused
-shape_of-reply-in-Refused c =
-    c.loop-b.invariant.reply_size ∙ sym
-    c.requires.1
+pub shape_of-notes-in-Err : goal.shape_of-notes-in-Err
+shape_of-notes-in-Err c = c.loop-b.invariant.notes_size
 
-pub shape_of-notes-in-Refused : goal.shape_of-notes-in-Refused
-shape_of-notes-in-Refused c = c.loop-b.invariant.notes_size
+pub shape_of-content-in-Err : goal.shape_of-content-in-Err
+shape_of-content-in-Err c = c.loop-b.invariant.content_size
 
-pub shape_of-content-in-Refused : goal.shape_of-content-in-Refused
-shape_of-content-in-Refused c = c.loop-b.invariant.content_size
-
-pub returns-in-Refused : goal.returns-in-Refused
-returns-in-Refused c =
-    rw c.stopped_at-in-Refused.ensures (reading_refused c.loop-b.invariant
+pub returns-in-Err : goal.returns-in-Err
+returns-in-Err c =
+    rw c.stopped_at-in-Err.ensures (reading_refused c.loop-b.invariant
     c.args.kind (sym c.shape-shape.ensures) (sym
     c.unit_at-unit.ensures ∙ ap unit_for
-    c.in-Data.is) (sym c.turn-turn.ensures ∙ ap turn_of
-    c.in-Refused.is))
+    c.in-Data.is) (sym c.in-Err.ensures))
 
 pub bounds-reply-got : goal.bounds-reply-got
-bounds-reply-got c = reading_room c.loop-b.invariant
+bounds-reply-got c = omega (arith, reading_room c.loop-b.invariant, c.loop-b.invariant.reply_size)
 
 pub overflow_add-got : goal.overflow_add-got
 overflow_add-got c =
@@ -79,13 +71,6 @@ overflow_add-got c =
       reading_room c.loop-b.invariant,
       c.loop-b.invariant.reply_size,
     )
-
-pub shape_of-reply-in-Done : goal.shape_of-reply-in-Done
-shape_of-reply-in-Done c =
-    length-set c.loop-b.reply
-    c.loop-b.got c.in-Data.b ∙
-    c.loop-b.invariant.reply_size ∙ sym
-    c.requires.1
 
 pub shape_of-notes-in-Done : goal.shape_of-notes-in-Done
 shape_of-notes-in-Done c = c.loop-b.invariant.notes_size
@@ -99,19 +84,8 @@ returns-in-Done c =
     c.args.kind
     (sym c.shape-shape.ensures) (sym
     c.unit_at-unit.ensures ∙ ap unit_for
-    c.in-Data.is) (sym c.turn-turn.ensures ∙ ap turn_of
+    c.in-Data.is) (sym c.in-Ok.ensures ∙ ap (λ (t : Turn). turn_of (Ok t))
     c.in-Done.is))
-
-pub bounds-reply-got-in-More : goal.bounds-reply-got-in-More
-bounds-reply-got-in-More c = reading_room c.loop-b.invariant
-
-pub overflow_add-got-in-More : goal.overflow_add-got-in-More
-overflow_add-got-in-More c =
-    omega (
-      arith,
-      reading_room c.loop-b.invariant,
-      c.loop-b.invariant.reply_size,
-    )
 
 pub slice_bounds-pass-count : goal.slice_bounds-pass-count
 slice_bounds-pass-count c =
@@ -132,8 +106,7 @@ pass-n-requires c = (
     more_fits (shape_for
         c.shape-shape.result)
         c.loop-b.got
-        c.in-Data.b (sym c.turn-turn.ensures ∙ ap turn_of
-        c.in-More.is),
+        c.in-Data.b (sym c.in-Ok.ensures ∙ ap (λ (t : Turn). turn_of (Ok t)) c.in-More.is),
     c.loop-b.invariant.whole,
   ),
   omega (
@@ -146,8 +119,8 @@ pass-n-requires c = (
   ),
 )
 
-pub overflow_add-got-in-More-2 : goal.overflow_add-got-in-More-2
-overflow_add-got-in-More-2 c =
+pub overflow_add-got-in-More : goal.overflow_add-got-in-More
+overflow_add-got-in-More c =
     omega (
       arith,
       c.pass-n.ensures.before,
@@ -180,35 +153,28 @@ pub loop-b-preserved-in-More : goal.loop-b-preserved-in-More
 loop-b-preserved-in-More c =
     reading_goes_on c.loop-b.invariant (sym
     c.unit_at-unit.ensures ∙ ap unit_for
-    c.in-Data.is) (sym
-    c.turn-turn.ensures ∙ ap turn_of
-    c.in-More.is) (rw (take_behind
+    c.in-Data.is) (sym c.in-Ok.ensures ∙ ap (λ (t : Turn). turn_of (Ok t)) c.in-More.is) (rw (take_behind
     c.in-Data.next c.args.raw.now) at c.pass-n.ensures)
 
-pub shape_of-reply-in-Halt : goal.shape_of-reply-in-Halt
-shape_of-reply-in-Halt c =
-    c.loop-b.invariant.reply_size ∙ sym
-    c.requires.1
-
-pub shape_of-notes-in-Halt : goal.shape_of-notes-in-Halt
-shape_of-notes-in-Halt c =
+pub shape_of-notes-in-Some : goal.shape_of-notes-in-Some
+shape_of-notes-in-Some c =
     c.notes-1.given ∙
     c.loop-b.invariant.notes_size
 
-pub shape_of-content-in-Halt : goal.shape_of-content-in-Halt
-shape_of-content-in-Halt c =
+pub shape_of-content-in-Some : goal.shape_of-content-in-Some
+shape_of-content-in-Some c =
     c.content-1.given ∙
     c.loop-b.invariant.content_size
 
-pub returns-in-Halt : goal.returns-in-Halt
-returns-in-Halt c =
-    rw c.stopped_at-in-Halt.ensures (reading_halts
+pub returns-in-Some : goal.returns-in-Some
+returns-in-Some c =
+    rw c.stopped_at-in-Some.ensures (reading_halts
     c.loop-b.invariant
     c.args.kind (sym
     c.shape-shape.ensures) (sym
     c.unit_at-unit.ensures ∙ ap
     unit_for c.in-Mark.is)
-    c.read_action-w.ensures c.in-Halt.is)
+    c.read_action-w.ensures c.in-Some.is)
 
 pub loop-b-smaller : goal.loop-b-smaller
 loop-b-smaller c =
@@ -228,5 +194,5 @@ loop-b-preserved c =
     c.loop-b.invariant (sym
     c.unit_at-unit.ensures ∙ ap unit_for
     c.in-Mark.is)
-    c.read_action-w.ensures c.in-On.is
+    c.read_action-w.ensures c.in-None.is
     c.notes-1.given c.content-1.given

@@ -3,7 +3,6 @@ use Rattle.request_loop.proofs.Feeds.{passes, pass_within, again, answered, need
 use Rattle.request_loop.proofs.Plains.{still_keeps}
 use Prim.Native.Nat.{◌+◌}
 use native.Mathlib.Omega.{arith}
-use borrow.Author.Rules.{rules}
 use Rattle.request_reader.specs.Read.{stop}
 use Rattle.request_loop.proofs.feed.Goals as goal
 
@@ -15,7 +14,7 @@ returns-in_default c =
     answered c.args.raw.now c.loop-i.i c.loop-i.invariant.1 (omega arith) c.step-step.ensures c.in_default.not-More
 
 pub pass-n-requires : goal.pass-n-requires
-pass-n-requires c = (still_keeps c.step-step.ensures c.in-More.is, search rules)
+pass-n-requires c = still_keeps c.step-step.ensures c.in-More.is
 
 pub passed-at-requires : goal.passed-at-requires
 passed-at-requires c = c.pass-n.ensures.below

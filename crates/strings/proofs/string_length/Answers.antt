@@ -4,17 +4,14 @@ use mathlib.Core.Path.{sym, ◌∙◌}
 use Rattle.strings.proofs.Laws.{ends_here, too_long, goes_on, not_ended}
 use Rattle.strings.proofs.string_length.Goals as goal
 
-pub returns-then-tail-i-eq-RETURN : goal.returns-then-tail-i-eq-RETURN
-returns-then-tail-i-eq-RETURN c =
-    sym (c.loop-i.invariant.1 ∙ ends_here c.args.tail.now c.loop-i.i c.loop-i-test.true c.if-tail-i-eq-RETURN.true)
+pub returns-then-b-eq-RETURN : goal.returns-then-b-eq-RETURN
+returns-then-b-eq-RETURN c = sym (c.loop-i.invariant ∙ ends_here c.args.tail.now c.loop-i.i (search rules) (search rules))
 
 pub returns-then-i-ge-LIMIT : goal.returns-then-i-ge-LIMIT
-returns-then-i-ge-LIMIT c =
-    sym (c.loop-i.invariant.1 ∙ too_long c.args.tail.now c.loop-i.i c.loop-i-test.true c.if-tail-i-eq-RETURN.false c.if-i-ge-LIMIT.true)
+returns-then-i-ge-LIMIT c = sym (c.loop-i.invariant ∙ too_long c.args.tail.now c.loop-i.i (search rules) (search rules) (search rules))
 
 pub loop-i-preserved : goal.loop-i-preserved
-loop-i-preserved c =
-    (search rules, c.loop-i.invariant.1 ∙ goes_on c.args.tail.now c.loop-i.i c.loop-i-test.true c.if-tail-i-eq-RETURN.false c.if-i-ge-LIMIT.false)
+loop-i-preserved c = c.loop-i.invariant ∙ goes_on c.args.tail.now c.loop-i.i (search rules) (search rules) (search rules)
 
 pub returns : goal.returns
-returns c = sym (c.loop-i.invariant.1 ∙ not_ended c.args.tail.now c.loop-i.i c.loop-i-test.false)
+returns c = sym (c.loop-i.invariant ∙ not_ended c.args.tail.now c.loop-i.i (search rules))

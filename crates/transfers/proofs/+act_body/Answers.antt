@@ -1,68 +1,32 @@
 -- The cycle of the action reader and the body of a transfer.
+use Rattle.std.specs.Prelude.{Ok, Err}
 use native.Mathlib.Omega.{arith}
-use mathlib.Core.Path.{sym, ap, ◌∙◌}
+use mathlib.Core.Path.{refl, sym, ap, ◌∙◌}
 use Rattle.escape.specs.Units.{unit_for}
 use Rattle.escape.proofs.Units.{data_near, mark_near}
 use Rattle.transfers.proofs.Cycle.{begun, act_halts, act_tells, act_opens, walk_starts, end_not, walk_ran_out, walk_saved, walk_loads, walk_ends, walk_acts, walk_halts}
 use Rattle.transfers.proofs.+act_body.Goals as goal
 
-pub act-overflow_add-depth : goal.act-overflow_add-depth
-act-overflow_add-depth t c =
-    omega (
-      arith,
-      c.requires.0,
-    )
-
 pub act-body-requires : goal.act-body-requires
 act-body-requires t c =
-    let b = (begun c.args.raw.now
-    c.args.depth
-    c.args.at
-    c.args.mark
-    c.begin_action-began.new.own
-    c.requires.1
-    c.in-Opens.is
-    c.begin_action-began.ensures) in (omega (arith, b.far, b.near), (b.near, omega (arith, b.deep)))
+    let a = c.args in
+    let b = begun a.raw.now a.depth a.at a.mark c.begin_action.new.own c.requires.1 (ap Ok c.in-Opens.is) c.in-Ok.ensures in
+    (omega (arith, b.far, b.near), (b.near, omega (arith, b.deep)))
 
-pub act-returns-in-Halt : goal.act-returns-in-Halt
-act-returns-in-Halt t c =
-    rw c.halted.ensures (act_halts (begun c.args.raw.now
-    c.args.depth
-    c.args.at
-    c.args.mark
-    c.begin_action-began.new.own
-    c.requires.1 c.in-Halt.is
-    c.begin_action-began.ensures))
+pub act-returns-in-Err : goal.act-returns-in-Err
+act-returns-in-Err t c =
+    let a = c.args in
+    rw c.halted.ensures (act_halts (begun a.raw.now a.depth a.at a.mark c.begin_action.new.own {r = Err c.in-Err.halt} c.requires.1 refl c.in-Err.ensures))
 
 pub act-returns-in-Told : goal.act-returns-in-Told
 act-returns-in-Told t c =
-    rw c.going.ensures (act_tells (omega (
-      arith,
-      c.well_formed.0,
-    )) (begun c.args.raw.now
-    c.args.depth
-    c.args.at
-    c.args.mark
-    c.begin_action-began.new.own
-    c.requires.1 c.in-Told.is
-    c.begin_action-began.ensures)
-    c.add.ensures)
+    let a = c.args in
+    rw c.going.ensures (act_tells (omega (arith, c.well_formed.0)) (begun a.raw.now a.depth a.at a.mark c.begin_action.new.own c.requires.1 (ap Ok c.in-Told.is) c.in-Ok.ensures) c.add.ensures)
 
 pub act-returns-in-Opens : goal.act-returns-in-Opens
 act-returns-in-Opens t c =
-    act_opens (omega (
-      arith,
-      c.well_formed.0,
-    )) (begun c.args.raw.now
-    c.args.depth
-    c.args.at
-    c.args.mark
-    c.begin_action-began.new.own
-    c.requires.1
-    c.in-Opens.is
-    c.begin_action-began.ensures)
-    c.add-opened.ensures
-    c.body.ensures
+    let a = c.args in
+    act_opens (omega (arith, c.well_formed.0)) (begun a.raw.now a.depth a.at a.mark c.begin_action.new.own c.requires.1 (ap Ok c.in-Opens.is) c.in-Ok.ensures) c.add-opened.ensures c.body.ensures
 
 pub body-loop-b-init : goal.body-loop-b-init
 body-loop-b-init t c = walk_starts c.requires.0
@@ -107,13 +71,13 @@ body-loop-b-preserved-in-Data t c =
 pub body-returns-then-is_end : goal.body-returns-then-is_end
 body-returns-then-is_end t c =
     rw c.going.ensures (walk_ends
-    c.loop-b.invariant c.of-meaning.result (omega (
+    c.loop-b.invariant c.of.result (omega (
       arith,
       c.well_formed.0,
     )) (sym
     c.unit_at-unit.ensures ∙ ap unit_for
     c.in-Mark.is)
-    c.of-meaning.ensures (sym
+    c.of.ensures (sym
     c.is_end.ensures ∙
     c.if-is_end.true)
     c.add-last.ensures)
@@ -133,18 +97,18 @@ body-act-w-requires t c =
       (
         c.requires.1,
         λ e. end_not
-            c.of-meaning.result (sym c.is_end.ensures ∙
-            c.if-is_end.false) (c.of-meaning.ensures ∙ e),
+            c.of.result (sym c.is_end.ensures ∙
+            c.if-is_end.false) (c.of.ensures ∙ e),
       ),
     )
 
-pub body-returns-in-Halt : goal.body-returns-in-Halt
-body-returns-in-Halt t c =
+pub body-returns-in-Some : goal.body-returns-in-Some
+body-returns-in-Some t c =
     walk_halts
     c.loop-b.invariant (sym
     c.unit_at-unit.ensures ∙ ap unit_for
     c.in-Mark.is)
-    c.act-w.ensures c.in-Halt.is
+    c.act-w.ensures c.in-Some.is
 
 pub body-loop-b-smaller : goal.body-loop-b-smaller
 body-loop-b-smaller t c =
@@ -166,5 +130,5 @@ body-loop-b-preserved t c =
     c.loop-b.invariant (sym
     c.unit_at-unit.ensures ∙ ap unit_for
     c.in-Mark.is)
-    c.act-w.ensures c.in-On.is
+    c.act-w.ensures c.in-None.is
     c.act-w.auto.notes c.act-w.auto.content

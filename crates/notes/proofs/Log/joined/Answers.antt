@@ -1,4 +1,4 @@
--- The bytes of the run are stored, and the last note counts them.
+-- The last note has room for the bytes of the run.
 use native.Mathlib.Omega.{arith}
 use lib.ListN.{length}
 use Rattle.notes.proofs.Laws.{join_facts, run_within}
@@ -18,8 +18,3 @@ pub grown-requires : goal.grown-requires
 grown-requires c =
     let f = join_facts c.args.self (length c.args.raw.now) c.requires in let w = run_within c.args.self c.args.raw.now
     c.data_ahead-n.ensures in (f.0, omega (arith, w.0, f.2), omega (arith, w.1, f.3))
-
-pub returns : goal.returns
-returns c =
-    let is = c.data_ahead-n.ensures in
-    record { grew = rw (← is) c.grown.ensures.0; note = rw (← is) c.grown.ensures.1; bytes = rw (← is) c.put_data.ensures }

@@ -1,8 +1,0 @@
--- A name that is found has its length, a refusal its number.
-use Rattle.flat.proofs.flat_name.Goals as goal
-
-pub returns-in-Found : goal.returns-in-Found
-returns-in-Found c = rw c.in-Found.is
-
-pub returns-in-Refused : goal.returns-in-Refused
-returns-in-Refused c = rw c.in-Refused.is

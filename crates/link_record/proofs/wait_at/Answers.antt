@@ -1,9 +1,0 @@
--- Number 0 is idle; any other is one more than that of the call.
-use borrow.Author.Tests.{eq-eqb, ne_eqb}
-use Rattle.link_record.proofs.wait_at.Goals as goal
-
-pub returns-then-n-eq0 : goal.returns-then-n-eq0
-returns-then-n-eq0 c = rw (eq-eqb _ _ c.if-n-eq0.true)
-
-pub returns : goal.returns
-returns c = rw (ne_eqb _ _ c.if-n-eq0.false, c.kind_at.ensures)
