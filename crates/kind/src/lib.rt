@@ -27,7 +27,7 @@ pub enum CallKind {
 }
 
 // The forms of a reply, by what it holds: carry and A; the one acknowledging byte of OSCLI; one byte; carry, Y and X; a block; a line; A and a
-// block; a plain zero byte; a block, carry and A.
+// block; one byte without a meaning; a block, carry and A.
 #[derive(Clone, Copy, PartialEq, Eq, Debug)]
 pub enum Form {
     CarryA,
