@@ -3,7 +3,7 @@
 
 ghost use Rattle.std.specs.Prelude.{◌≡◌};
 ghost use Rattle.serial_rules.specs.Call.{style_ok};
-ghost use Rattle.carrier.specs.Carriers.{carrier_of, carrier_from, carrier_number};
+ghost use Rattle.carrier.specs.Carriers.{carrier_of, carrier_at, carrier_from, carrier_number};
 
 use refusal::Refusal;
 
@@ -30,6 +30,19 @@ impl TryFrom<u8> for Carrier {
 }
 
 impl Carrier {
+    // The highest number of a carrier.
+    pub const LAST: u8 = 1;
+
+    // The carrier of a number: 0 is the serial lead, 1 the parallel side; a number above that falls to the last.
+    pub fn at(n: u8) -> Carrier
+        ensures { result ≡ carrier_at n }
+    {
+        match n {
+            0 => Carrier::Serial,
+            _ => Carrier::Parallel,
+        }
+    }
+
     // The number of a carrier.
     pub fn number(self) -> u8
         ensures { result ≡ carrier_number self }

@@ -30,11 +30,16 @@ impl Piece {
     pub fn read(seen: bool, raw: u8) -> Piece
         ensures { piece_for result ≡ piece_of seen raw }
     {
-        match (seen, raw == Piece::ESCAPE) {
-            (true, false) => Piece::Mark(raw),
-            (false, true) => Piece::Pending,
-            _ => Piece::Data(raw),
+        if seen {
+            if raw == Piece::ESCAPE {
+                return Piece::Data(raw);
+            }
+            return Piece::Mark(raw);
         }
+        if raw == Piece::ESCAPE {
+            return Piece::Pending;
+        }
+        Piece::Data(raw)
     }
 }
 

@@ -1,4 +1,5 @@
 -- The bits of a number by their weights, and the weights summed.
+use Prim.Native.Nat.div
 use Prim.Native.Nat.{ℕ, ◌+◌, ◌*◌, ◌/◌, ◌%◌, ◌<◌, ◌≤◌}
 use mathlib.Core.Path.{◌≡◌, refl}
 use mathlib.Core.Bool.{Bool, true, false}
@@ -89,6 +90,10 @@ module _ (u : ℕ) (p v m j i q : Bool) where
       let i₁ = few i in
       let q₁ = few q in
       omega arith
+
+-- no bit has weight 0
+pub no_weight : (x : ℕ) → bit x 0 ≡ false
+no_weight x = rw (div.zero x)
 
 pub flags_after : (x f : ℕ)
     → FlagsAfter x f (f / 64 * 64 + (weigh (switched x 32 (bit f 32)) 32 + weigh (switched x 16 (bit f 16)) 16 + weigh (switched x 8 (bit f 8)) 8

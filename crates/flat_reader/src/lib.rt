@@ -2,7 +2,7 @@
 #![tactic(auto)]
 
 ghost use Rattle.std.specs.Prelude.{◌≡◌};
-ghost use Rattle.flat_reader.specs.Readers.{phase_from, reader_from, flat_of, flat_read, flat_plain};
+ghost use Rattle.flat_reader.specs.Readers.{phase_from, reader_of, reader_from, flat_of, flat_read, flat_plain, tags_ok};
 
 use carrier::Carrier;
 use refusal::Refusal;
@@ -76,28 +76,40 @@ fn flat(reader: FlatReader, kind: u8, value: u8) -> FlatRead
     }
 }
 
+// Whether the numbers of the carrier and of the phase are in range.
+#[tactic(auto, unfolding(crate::specs::Readers::tags_ok))]
+pub fn has_tags(reader: FlatReader) -> bool
+    ensures { result ≡ tags_ok reader }
+{
+    reader.carrier <= Carrier::LAST && phase_at(reader.phase).is_some()
+}
+
+// The reader of a flat record; a number out of range falls to the last carrier, and to a stopped phase.
+pub fn unflattened(reader: FlatReader) -> Reader
+    ensures { result ≡ reader_of reader }
+{
+    Reader {
+        carrier: Carrier::at(reader.carrier),
+        phase: phase_at(reader.phase).unwrap_or(Phase::Stopped),
+        escape: reader.escape != 0,
+        style: reader.style,
+        code: reader.code,
+        count: reader.count,
+    }
+}
+
 impl TryFrom<FlatReader> for Reader {
     type Error = Refusal;
 
     // The reader of a flat record; one with a number out of range counts as stopped.
-    #[tactic(auto, unfolding(crate::specs::Readers::tags_ok))]
     fn try_from(flat: FlatReader) -> Result<Reader, Refusal>
         ensures { result ≡ reader_from flat }
     {
-        let Ok(carrier) = Carrier::try_from(flat.carrier) else {
-            return Err(Refusal::Stopped);
-        };
-        let Some(phase) = phase_at(flat.phase) else {
-            return Err(Refusal::Stopped);
-        };
-        Ok(Reader {
-            carrier,
-            phase,
-            escape: flat.escape != 0,
-            style: flat.style,
-            code: flat.code,
-            count: flat.count,
-        })
+        if has_tags(flat) {
+            Ok(unflattened(flat))
+        } else {
+            Err(Refusal::Stopped)
+        }
     }
 }
 

@@ -2,7 +2,7 @@
 #![tactic(auto)]
 
 ghost use Rattle.std.specs.Prelude.{◌≡◌};
-ghost use Rattle.link_record.specs.Records.{wait_at, doing_at, known_link, tags_ok, fresh_link, wait_number, wait_out, doing_number, flags_number, flat_of};
+ghost use Rattle.link_record.specs.Records.{wait_at, doing_at, link_of, known_link, tags_ok, fresh_link, wait_number, wait_out, doing_number, flags_number, flat_of};
 
 use actions::{Action, Target};
 use link::{Link, Wait};
@@ -37,31 +37,39 @@ pub fn fresh() -> FlatLink
     }
 }
 
+// Whether the numbers of what waits, of the action and of the flags are in range.
+#[tactic(auto, using(crate::proofs::Conversions::tags_tests))]
+pub fn has_tags(link: FlatLink) -> bool
+    ensures { result ≡ tags_ok link }
+{
+    link.wait <= 13 && link.flags <= 123 && (link.action <= 6 || 129 <= link.action)
+}
+
+// The link of a flat record, and its parts by number.
+pub fn unflattened(link: FlatLink) -> Link
+    ensures { result ≡ link_of link }
+{
+    Link {
+        wait: wait_at(link.wait, link.out_length),
+        got: link.got,
+        escape: link.flags % 2 == 1,
+        doing: doing_at(link.action),
+        held: link.held,
+        nested: link.flags / 4,
+        stopped: link.flags / 2 % 2 == 1,
+    }
+}
+
 impl FlatLink {
     // The link of the record, if its numbers are in range.
     pub fn link(self) -> Option<Link>
         ensures { result ≡ known_link self }
     {
-        if !self.has_tags() {
-            return None;
+        if has_tags(self) {
+            Some(unflattened(self))
+        } else {
+            None
         }
-        Some(Link {
-            wait: wait_at(self.wait, self.out_length),
-            got: self.got,
-            escape: self.flags % 2 == 1,
-            doing: doing_at(self.action),
-            held: self.held,
-            nested: self.flags / 4,
-            stopped: self.flags / 2 % 2 == 1,
-        })
-    }
-
-    // Whether the numbers of what waits, of the action and of the flags are in range.
-    #[tactic(auto, using(crate::proofs::Conversions::tags_tests))]
-    fn has_tags(self) -> bool
-        ensures { result ≡ tags_ok self }
-    {
-        self.wait <= 13 && self.flags <= 123 && (self.action <= 6 || 129 <= self.action)
     }
 }
 

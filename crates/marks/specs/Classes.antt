@@ -1,6 +1,6 @@
 -- The program's classes of the rules' numbers of classes, each way.
 use Rattle.std.specs.Prelude.{ℕ, cond, eqb}
-use Rattle.serial_rules.specs.Marks.{error_mark, escape_mark, event_mark, address_mark, block_mark, end_mark, execute_mark, load_mark, save_mark}
+use Rattle.serial_rules.specs.Marks.{Way, outward, inward, error_mark, escape_mark, event_mark, address_mark, block_mark, end_mark, execute_mark, load_mark, save_mark}
 use Rattle.marks.specs.declared.Class.{Class}
 use Rattle.marks.specs.declared.Class.TheVariants.{NotCarried, Request, Error, State, Event, Address, Block, End, Execute, Load, Save}
 
@@ -20,3 +20,8 @@ inward_as n =
     (cond (eqb n load_mark) Load
     (cond (eqb n save_mark) Save
     NotCarried))))))))
+
+-- either way
+abbrev pub class_as : Way → ℕ → Class
+class_as outward n = outward_as n
+class_as inward n = inward_as n

@@ -145,8 +145,9 @@ fn put_first(bytes: &[u8], n: usize, out: &mut [u8])
     requires { length bytes.now ≤ length out.old }
     ensures { out.new ≡ over (take n bytes.now) out.old }
 {
-    let n = n.min(bytes.len());
-    out[..n].copy_from_slice(&bytes[..n]);
+    for i in 0..n.min(bytes.len()) {
+        out[i] = bytes[i];
+    }
 }
 
 // The reply from its first byte on.

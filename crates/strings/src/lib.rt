@@ -9,6 +9,7 @@ ghost use Rattle.strings.specs.Text.{string_from, name_of, has_byte};
 use refusal::Refusal;
 
 // The strings of the protocol.
+#[derive(Clone, Copy)]
 pub struct Text;
 
 impl Text {
