@@ -24,10 +24,8 @@ use Rattle.actions.specs.declared.Target.{Target}
 use Rattle.actions.specs.declared.Target.TheVariants.{Set, Execute, Load, Save}
 use Rattle.actions.specs.declared.Action.{Action}
 use Rattle.actions.specs.declared.Action.TheVariants.{Error, Event, Address, Block}
-use Rattle.refusal.specs.declared.Refusal.{Refusal}
 use Rattle.refusal.specs.declared.Refusal.TheVariants.{NotCarried, Misplaced, TooDeep}
 use Rattle.refusal.specs.Refusals.{number}
-use Rattle.refusal.proofs.Refusals.{refusal_back}
 use Rattle.answers.specs.declared.Answer.{Answer}
 use Rattle.answers.specs.declared.Answer.TheVariants as variant
 use Rattle.link.specs.View.{own_lent}
@@ -42,8 +40,8 @@ use Rattle.action_bytes.proofs.Walk as laws
 pub ends_more : {own : List ℕ} → Ends variant.More own
 ends_more = record { same = λ reply. refl; sized = refl }
 
-pub ends_refused : {own : List ℕ} (r : Refusal) → Ends (variant.Refused r) own
-ends_refused r = record { same = λ reply. refl; sized = ap variant.Refused (sym (refusal_back r)) }
+pub ends_refused : {own : List ℕ} (n : ℕ) → Ends (variant.Refused n) own
+ends_refused n = record { same = λ reply. refl; sized = refl }
 
 -- no action has more bytes of its own than are lent
 own_most_lem : (a : rules.Action) → rules.own_most a ≤ own_lent
@@ -71,10 +69,10 @@ module _ {s : List ℕ} {a : Action} {from i : ℕ} {own : List ℕ} {held : ℕ
   pub own_ran_out : unit_at s i ≡ units.gone → HaltedDone s a from own variant.More (length s)
   own_ran_out u = record { says = v.chain _ (laws.own_gone s (action_for a) i (take held own) v.near u); ends = ends_more; far = omega (arith, v.far, v.near); near = omega arith }
 
-  pub own_marked : {m n : ℕ} → unit_at s i ≡ units.mark m n → HaltedDone s a from own (variant.Refused Misplaced) n
+  pub own_marked : {m n : ℕ} → unit_at s i ≡ units.mark m n → HaltedDone s a from own (variant.Refused (number Misplaced)) n
   own_marked u =
       let k = mark_near s i u in
-      record { says = v.chain _ (laws.own_mark s (action_for a) i (take held own) v.near u); ends = ends_refused Misplaced; far = omega (arith, v.far); near = k.1 }
+      record { says = v.chain _ (laws.own_mark s (action_for a) i (take held own) v.near u); ends = ends_refused (number Misplaced); far = omega (arith, v.far); near = k.1 }
 
   turn : (b : ℕ) {t : Turn} → shape_turn (rules.own_shape (action_for a)) held b ≡ t
       → shape_turn (rules.own_shape (action_for a)) (length (take held own)) b ≡ t
@@ -82,11 +80,11 @@ module _ {s : List ℕ} {a : Action} {from i : ℕ} {own : List ℕ} {held : ℕ
       let n : length (take held own) ≡ held = length-take-le held own (omega (arith, v.size, own_below v)) in
       ap (λ (m : ℕ). shape_turn (rules.own_shape (action_for a)) m b) n ∙ e
 
-  pub own_is_refused : {b n : ℕ} {x : Refusal} → unit_at s i ≡ units.datum b n → shape_turn (rules.own_shape (action_for a)) held b ≡ refused (number x)
-      → HaltedDone s a from own (variant.Refused x) n
-  own_is_refused {b} {x = x} u t =
+  pub own_is_refused : {b n m : ℕ} → unit_at s i ≡ units.datum b n → shape_turn (rules.own_shape (action_for a)) held b ≡ refused m
+      → HaltedDone s a from own (variant.Refused m) n
+  own_is_refused {b} {m = m} u t =
       let k = data_near s i u in
-      record { says = v.chain _ (laws.own_refused s (action_for a) i (take held own) v.near u (turn b t)); ends = ends_refused x; far = omega (arith, v.far); near = k.1 }
+      record { says = v.chain _ (laws.own_refused s (action_for a) i (take held own) v.near u (turn b t)); ends = ends_refused m; far = omega (arith, v.far); near = k.1 }
 
   stored : (b : ℕ) → take (held + 1) (set own held b) ≡ take held own ++ (b ∷ [])
   stored b = take_next own held b (omega (arith, v.size, own_below v))
@@ -149,13 +147,13 @@ may_start_lem (Address Save) d e o h = let l = leb-false 4 d e in lt-ltb (length
 may_start_lem (Block n) d e o h = refl
 
 pub fifth_starts : {s : List ℕ} {i : ℕ} {own : List ℕ} (a : Action) (d : ℕ) → i ≤ length s → is_fifth a d ≡ true
-    → BeganHalt s d i (rules.starts (action_for a)) own (variant.Refused TooDeep) i
+    → BeganHalt s d i (rules.starts (action_for a)) own (variant.Refused (number TooDeep)) i
 fifth_starts Error d le e = cc
 fifth_starts Event d le e = cc
 fifth_starts (Address Set) d le e = cc
 fifth_starts (Address Execute) d le e = cc
-fifth_starts {s} {i} (Address Load) d le e = record { says = laws.act_fifth s d i rules.load (leb-true 4 d e); ends = ends_refused TooDeep; far = omega arith; near = le }
-fifth_starts {s} {i} (Address Save) d le e = record { says = laws.act_fifth s d i rules.save (leb-true 4 d e); ends = ends_refused TooDeep; far = omega arith; near = le }
+fifth_starts {s} {i} (Address Load) d le e = record { says = laws.act_fifth s d i rules.load (leb-true 4 d e); ends = ends_refused (number TooDeep); far = omega arith; near = le }
+fifth_starts {s} {i} (Address Save) d le e = record { says = laws.act_fifth s d i rules.save (leb-true 4 d e); ends = ends_refused (number TooDeep); far = omega arith; near = le }
 fifth_starts (Block n) d le e = cc
 
 pub halted_starts : {s : List ℕ} {i : ℕ} {own : List ℕ} {answer : Answer} {k : ℕ} (a : Action) (d : ℕ) → is_fifth a d ≡ false
@@ -245,11 +243,11 @@ module _ {s : List ℕ} {i : ℕ} {own : List ℕ} {held k : ℕ} (d : ℕ) (siz
 
 -- a mark that starts no action
 module _ (s : List ℕ) (d i : ℕ) (own : List ℕ) (le : i ≤ length s) where
-  pub unknown_begins : BeganHalt s d i rules.unknown own (variant.Refused NotCarried) i
-  unknown_begins = record { says = laws.act_unknown s d i; ends = ends_refused NotCarried; far = omega arith; near = le }
+  pub unknown_begins : BeganHalt s d i rules.unknown own (variant.Refused (number NotCarried)) i
+  unknown_begins = record { says = laws.act_unknown s d i; ends = ends_refused (number NotCarried); far = omega arith; near = le }
 
   pub state_begins : (x : Bool) → BeganTold s d i (rules.state x) own (variant.EscapeState x) i
   state_begins x = record { says = laws.act_state s d i x; own_data = (omega arith, omega arith); far = omega arith; near = le }
 
-pub end_begins : (s : List ℕ) (i : ℕ) (own : List ℕ) → i ≤ length s → BeganHalt s 0 i rules.end own (variant.Refused Misplaced) i
-end_begins s i own le = record { says = laws.act_end s 0 i refl; ends = ends_refused Misplaced; far = omega arith; near = le }
+pub end_begins : (s : List ℕ) (i : ℕ) (own : List ℕ) → i ≤ length s → BeganHalt s 0 i rules.end own (variant.Refused (number Misplaced)) i
+end_begins s i own le = record { says = laws.act_end s 0 i refl; ends = ends_refused (number Misplaced); far = omega arith; near = le }

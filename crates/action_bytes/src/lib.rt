@@ -48,12 +48,12 @@ pub fn begin_action(
     let at = at.min(raw.len());
     match Meaning::of(mark) {
         Meaning::Unknown => Err(Halt {
-            answer: Answer::Refused(Refusal::NotCarried),
+            answer: Answer::Refused(Refusal::NotCarried.number()),
             at,
         }),
         Meaning::State(on) => Ok(Began::Told(Answer::EscapeState(on), at)),
         Meaning::End => Err(Halt {
-            answer: Answer::Refused(Refusal::Misplaced),
+            answer: Answer::Refused(Refusal::Misplaced.number()),
             at,
         }),
         Meaning::Starts(action) => start(raw, at, action, depth, own),
@@ -73,7 +73,7 @@ fn start(
 {
     if is_fifth(action, depth) {
         return Err(Halt {
-            answer: Answer::Refused(Refusal::TooDeep),
+            answer: Answer::Refused(Refusal::TooDeep.number()),
             at,
         });
     }
@@ -123,7 +123,7 @@ fn own_bytes(
             }
             Unit::Mark(_, at) => {
                 return Err(Halt {
-                    answer: Answer::Refused(Refusal::Misplaced),
+                    answer: Answer::Refused(Refusal::Misplaced.number()),
                     at,
                 });
             }
@@ -132,7 +132,7 @@ fn own_bytes(
                     Ok(turn) => turn,
                     Err(refusal) => {
                         return Err(Halt {
-                            answer: Answer::Refused(refusal),
+                            answer: Answer::Refused(refusal.number()),
                             at: next,
                         });
                     }

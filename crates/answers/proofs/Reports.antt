@@ -11,8 +11,6 @@ use lib.Seq.{length-take-le}
 use borrow.Author.Tests.{ne_eqb}
 use Rattle.serial_rules.specs.Fields.{at}
 use Rattle.serial_rules.specs.Link as rules
-use Rattle.refusal.specs.declared.Refusal.{Refusal}
-use Rattle.refusal.proofs.Refusals.{refusal_back}
 use Rattle.actions.specs.declared.Target.TheVariants.{Set, Execute, Load, Save}
 use Rattle.answers.specs.declared.Answer.{Answer}
 use Rattle.answers.specs.declared.Answer.TheVariants as variant
@@ -20,7 +18,7 @@ use Rattle.answers.specs.Reports.{report_of, answer_for, failure_for}
 use Rattle.answers.specs.contracts.Answer as answers
 
 -- an answer that is no refusal: `Refused` is the last of them
-pub told : (a : Answer) → tag_of answers.the_type a < 11 → (r : Refusal) → a ≡ variant.Refused r → ⊥
+pub told : (a : Answer) → tag_of answers.the_type a < 11 → (n : ℕ) → a ≡ variant.Refused n → ⊥
 told a h r e = omega (arith, ap (tag_of answers.the_type) e)
 
 -- The lent bytes have as many as an answer says: then the answer is that of its report.
@@ -36,7 +34,7 @@ LentWhole (variant.Loaded b) reply own = Unit
 LentWhole (variant.Ended save) reply own = Unit
 LentWhole (variant.Error n k) reply own = k ≤ length (drop 1 own)
 LentWhole variant.Restart reply own = Unit
-LentWhole (variant.Refused r) reply own = Unit
+LentWhole (variant.Refused n) reply own = Unit
 
 pub answer_back : (a : Answer) (reply own : List ℕ) → LentWhole a reply own → a ≡ answer_for (report_of a reply own)
 answer_back variant.More reply own h = refl
@@ -54,7 +52,7 @@ answer_back (variant.Ended true) reply own h = refl
 answer_back (variant.Ended false) reply own h = refl
 answer_back (variant.Error n k) reply own h = ap (variant.Error n) (sym (length-take-le k (drop 1 own) h))
 answer_back variant.Restart reply own h = refl
-answer_back (variant.Refused r) reply own h = ap variant.Refused (sym (refusal_back r))
+answer_back (variant.Refused n) reply own h = refl
 
 -- an error or restart, by its number and the length of its text
 pub failure_told : (n k : ℕ) → tag_of answers.the_type (failure_for n k) < 11

@@ -8,7 +8,6 @@ use Rattle.actions.specs.declared.Target.{Target}
 use Rattle.actions.specs.declared.Target.TheVariants.{Set, Execute, Load, Save}
 use Rattle.actions.specs.declared.Action.{Action}
 use Rattle.actions.specs.declared.Action.TheVariants.{Error, Event, Address, Block}
-use Rattle.refusal.specs.Refusals.{number, refusal_at}
 use Rattle.answers.specs.declared.Answer.{Answer}
 use Rattle.answers.specs.declared.Answer.TheVariants as variant
 
@@ -29,7 +28,7 @@ report_of (variant.Loaded b) reply own = rules.loaded b
 report_of (variant.Ended save) reply own = rules.ended (transfer_for save)
 report_of (variant.Error n k) reply own = rules.error n (take k (drop 1 own))
 report_of variant.Restart reply own = rules.restart
-report_of (variant.Refused r) reply own = rules.refusal (number r)
+report_of (variant.Refused n) reply own = rules.refusal n
 
 -- each report's answer: a finished reply, a control block and an error's text stand in the lent bytes, and the answer has their lengths
 abbrev pub target_back : rules.Target → Target
@@ -54,7 +53,7 @@ answer_for (rules.loaded b) = variant.Loaded b
 answer_for (rules.ended t) = variant.Ended (is_save t)
 answer_for (rules.error n t) = variant.Error n (length t)
 answer_for rules.restart = variant.Restart
-answer_for (rules.refusal n) = variant.Refused (refusal_at n)
+answer_for (rules.refusal n) = variant.Refused n
 
 -- what an action with all its bytes tells: n of them and the last one are the first of the bytes lent for its own. "error 0 with empty text is a restart"
 abbrev pub failure_for : ℕ → ℕ → Answer

@@ -5,11 +5,10 @@ ghost use Rattle.std.specs.Prelude.{◌≡◌};
 ghost use Rattle.answers.specs.Reports.{ends_of, failure_for, told_by};
 
 use actions::{Action, Target};
-use refusal::Refusal;
 
 // What a raw byte gives: more is needed; a character; a finished reply, the first bytes of the lent reply; the Escape state; an event; an
 // address and what it is for, high byte first; a control block, the first bytes of the other lent bytes; a byte of load data; the end of a
-// load or save; an error, whose text stands in the other lent bytes from the second on; a restart; or a refusal.
+// load or save; an error, whose text stands in the other lent bytes from the second on; a restart; or a refusal by document 01's number.
 #[derive(Clone, Copy, PartialEq, Eq, Debug)]
 pub enum Answer {
     More,
@@ -38,7 +37,7 @@ pub enum Answer {
         length: usize,
     },
     Restart,
-    Refused(Refusal),
+    Refused(u8),
 }
 
 impl Answer {

@@ -9,6 +9,7 @@ use Rattle.serial_rules.specs.Link as rules
 use Rattle.kind.specs.declared.CallKind.{CallKind}
 use Rattle.link.specs.declared.Link.{Link}
 use Rattle.refusal.specs.declared.Refusal.TheVariants.{Stopped}
+use Rattle.refusal.specs.Refusals.{number}
 use Rattle.answers.specs.declared.Answer.TheVariants as variant
 use Rattle.link.specs.declared.Stepped.{Stepped}
 use Rattle.link.specs.declared.Started.{Started}
@@ -38,7 +39,7 @@ module _ {f : FlatLink} {reply own : List ℕ} {x : ℕ} {r : FlatTold} where
     unknown = λ out. cc;
   }
 
-  pub step_unknown : tags_ok f ≡ false → r ≡ flat_told f (variant.Refused Stopped) → FlatStepDone f reply own x r reply own
+  pub step_unknown : tags_ok f ≡ false → r ≡ flat_told f (variant.Refused (number Stopped)) → FlatStepDone f reply own x r reply own
   step_unknown out q = record { known = λ ok. cc; unknown = λ _. (q, refl, refl) }
 
 -- the loop, by whether the numbers are in range

@@ -10,7 +10,6 @@ use mathlib.Core.List.{List}
 use Rattle.serial_rules.specs.Link as rules
 use Rattle.actions.specs.declared.Action.{Action}
 use Rattle.link.specs.declared.Link.{Link}
-use Rattle.refusal.specs.Refusals.{refusal_at}
 use Rattle.answers.specs.declared.Answer.{Answer}
 use Rattle.link.specs.declared.Stepped.{Stepped}
 use Rattle.actions.specs.declared.Action.TheVariants.{Error, Event, Address, Block}
@@ -59,7 +58,7 @@ step_ranged {l} {reply} {own} {reply-left} {own-left} {x} {o} d h = go (usable_o
     stopped u = let off : view_of o.link reply-left own-left ≡ rules.stopped = rw u in sym d.next ∙ off
 
     refused : {r : rules.Report} → Refuses r → (view_of l reply own ≡ rules.stopped → ⊥) → o.answer ≡ answer_for r → Ranged o.link
-    refused (refuses n) runs e = subst Ranged (sym (d.stops (refusal_at n) runs e)) h
+    refused (refuses n) runs e = subst Ranged (sym (d.stops n runs e)) h
 
     go : (t : Bool) → usable_of o.link ≡ t → (s : Bool) → usable_of l ≡ s → Ranged o.link
     go true u s v = (nested_low o.link u, own_ranged o.link.doing o.link.held (usable_held o.link u))

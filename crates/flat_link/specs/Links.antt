@@ -33,7 +33,7 @@ flat_told f (variant.Loaded b) = told_with f 13 b 0
 flat_told f (variant.Ended save) = told_with f 14 (cond save 1 0) 0
 flat_told f (variant.Error n k) = told_with f 6 n k
 flat_told f variant.Restart = told_with f 7 0 0
-flat_told f (variant.Refused r) = told_with f 8 (number r) 0
+flat_told f (variant.Refused n) = told_with f 8 n 0
 
 -- the link of the record took a step, and its result is flat
 pub record FlatLinkStepped (f : FlatLink) (reply own : List ℕ) (raw : ℕ) (r : FlatTold) (reply-left own-left : List ℕ) : Type 0 where
@@ -45,7 +45,7 @@ pub record FlatLinkStepped (f : FlatLink) (reply own : List ℕ) (raw : ℕ) (r 
 -- as a stopped link does, and the record is the one given.
 pub record FlatStepDone (f : FlatLink) (reply own : List ℕ) (raw : ℕ) (r : FlatTold) (reply-left own-left : List ℕ) : Type 0 where
   pub known : tags_ok f ≡ true → FlatLinkStepped f reply own raw r reply-left own-left
-  pub unknown : tags_ok f ≡ false → (r ≡ flat_told f (variant.Refused Stopped)) × (reply-left ≡ reply) × (own-left ≡ own)
+  pub unknown : tags_ok f ≡ false → (r ≡ flat_told f (variant.Refused (number Stopped))) × (reply-left ≡ reply) × (own-left ≡ own)
 
 -- kind 0 waits, 1 is complete, 2 is refused by number
 abbrev pub flat_begun : FlatLink → rules.Begun → FlatBegun

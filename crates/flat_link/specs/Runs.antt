@@ -1,6 +1,7 @@
 -- What the loop over raw bytes promises of flat records.
 use Rattle.std.specs.Prelude.{ℕ, ◌≡◌, true, false, cond, List, eqb, length}
 use Rattle.refusal.specs.declared.Refusal.TheVariants.{Stopped, NoRoom}
+use Rattle.refusal.specs.Refusals.{number}
 use Rattle.answers.specs.declared.Answer.TheVariants as variant
 use Rattle.link_loop.specs.declared.Ran.{Ran}
 use Rattle.link_loop.specs.Run.{lacks_room, RunDone}
@@ -21,9 +22,9 @@ ran_with r used = record { told = r; used = used; noted = 0; stored = 0 }
 
 unfoldable pub flat_unknown : FlatLink → ℕ → ℕ → ℕ → FlatRan
 flat_unknown f n room content =
-    cond (lacks_room f.held n room content) (ran_with (flat_told f (variant.Refused NoRoom)) 0)
+    cond (lacks_room f.held n room content) (ran_with (flat_told f (variant.Refused (number NoRoom))) 0)
     (cond (eqb n 0) (ran_with (flat_told f variant.More) 0)
-    (ran_with (flat_told f (variant.Refused Stopped)) 1))
+    (ran_with (flat_told f (variant.Refused (number Stopped))) 1))
 
 -- the loop ran on the link of the record, and its result is flat
 pub record IsFlatRan (f : FlatLink) (reply own raw room content : List ℕ) (r : FlatRan) (reply-left own-left room-left content-left : List ℕ) : Type 0 where

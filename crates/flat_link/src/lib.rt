@@ -119,7 +119,7 @@ fn step_unflattened(
     ensures { FlatStepDone link reply.old own.old raw result reply.new own.new }
 {
     let Some(at) = link.link() else {
-        return flat_told(link, Answer::Refused(Refusal::Stopped));
+        return flat_told(link, Answer::Refused(Refusal::Stopped.number()));
     };
     let stepped = link_step::step(at, raw, reply, own);
     flat_told(link_record::flattened(link, stepped.link), stepped.answer)
@@ -205,12 +205,18 @@ fn unknown(link: FlatLink, bytes: usize, room: usize, content: usize) -> FlatRan
     ensures { result ≡ flat_unknown link bytes room content }
 {
     if link_loop::lacks_room(link.held, bytes, room, content) {
-        return unnoted(flat_told(link, Answer::Refused(Refusal::NoRoom)), 0);
+        return unnoted(
+            flat_told(link, Answer::Refused(Refusal::NoRoom.number())),
+            0,
+        );
     }
     if bytes == 0 {
         return unnoted(flat_told(link, Answer::More), 0);
     }
-    unnoted(flat_told(link, Answer::Refused(Refusal::Stopped)), 1)
+    unnoted(
+        flat_told(link, Answer::Refused(Refusal::Stopped.number())),
+        1,
+    )
 }
 
 fn unnoted(told: FlatTold, used: usize) -> FlatRan
@@ -255,7 +261,7 @@ fn flat_told(link: FlatLink, answer: Answer) -> FlatTold
         Answer::Ended { save } => told(link, 14, u8::from(save), 0),
         Answer::Error { number, length } => told(link, 6, number, length),
         Answer::Restart => told(link, 7, 0, 0),
-        Answer::Refused(refusal) => told(link, 8, refusal.number(), 0),
+        Answer::Refused(n) => told(link, 8, n, 0),
     }
 }
 

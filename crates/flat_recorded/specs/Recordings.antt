@@ -26,14 +26,14 @@ flat_end q (variant.Loaded b) = recorded_with q 0 0 0
 flat_end q (variant.Ended save) = recorded_with q 0 0 0
 flat_end q (variant.Error n k) = recorded_with q 6 n k
 flat_end q variant.Restart = recorded_with q 7 0 0
-flat_end q (variant.Refused r) = recorded_with q 8 (number r) 0
+flat_end q (variant.Refused n) = recorded_with q 8 n 0
 
 abbrev pub flat_recorded : Recorded → FlatRecorded
 flat_recorded q = flat_end q q.answer
 
 -- a call that is not carried is refused before the first byte
 abbrev pub not_called : Recorded
-not_called = record { answer = variant.Refused NotCarried; used = 0; noted = 0; stored = 0 }
+not_called = record { answer = variant.Refused (number NotCarried); used = 0; noted = 0; stored = 0 }
 
 -- the recording was read, and its result is flat
 pub record IsFlatRecorded (kind : CallKind) (raw notes content out : List ℕ) (r : FlatRecorded) (notes-left content-left out-left : List ℕ) : Type 0 where

@@ -37,7 +37,7 @@ pub fn read_recorded(
     match flat_kind::known_kind(call, out_length) {
         Some(kind) => flat_recorded(recorded::read_recorded(kind, raw, notes, content, out)),
         None => flat_recorded(Recorded {
-            answer: Answer::Refused(Refusal::NotCarried),
+            answer: Answer::Refused(Refusal::NotCarried.number()),
             used: 0,
             noted: 0,
             stored: 0,
@@ -53,7 +53,7 @@ fn flat_recorded(read: Recorded) -> FlatRecorded
         Answer::Reply(n) => with(read, 5, 0, n),
         Answer::Error { number, length } => with(read, 6, number, length),
         Answer::Restart => with(read, 7, 0, 0),
-        Answer::Refused(refusal) => with(read, 8, refusal.number(), 0),
+        Answer::Refused(n) => with(read, 8, n, 0),
         _ => with(read, 0, 0, 0),
     }
 }

@@ -22,8 +22,8 @@ abbrev pub free_of : Link → Result (Unit {0}) Refusal
 free_of l = cond (usable_of l) (none_waits l.wait) (Err Stopped)
 
 -- what a step leaves: the record stopped; an escape seen; the reply at its place; another transfer innermost; or no action and no transfer open
-abbrev pub refused_from : Link → Refusal → Stepped
-refused_from l r = record { answer = variant.Refused r; link = stopped_from l }
+abbrev pub refused_from : Link → ℕ → Stepped
+refused_from l n = record { answer = variant.Refused n; link = stopped_from l }
 
 abbrev pub paused_from : Link → Stepped
 paused_from l = record { answer = variant.More; link = record l { escape = true; stopped = false } }

@@ -127,4 +127,4 @@ pub record StepDone (link : Link) (reply own : List ℕ) (raw : ℕ) (r : Steppe
   pub own_bytes : own-left ≡ own_after (view_of link reply own) raw own
   -- a stopped link is unchanged; any other refusal leaves the record given, stopped
   pub kept : view_of link reply own ≡ rules.stopped → r.link ≡ link
-  pub stops : (n : Refusal) → (view_of link reply own ≡ rules.stopped → ⊥) → r.answer ≡ variant.Refused n → r.link ≡ stopped_from link
+  pub stops : (n : ℕ) → (view_of link reply own ≡ rules.stopped → ⊥) → r.answer ≡ variant.Refused n → r.link ≡ stopped_from link

@@ -186,11 +186,11 @@ impl Link {
     }
 
     // A refusal: the record given, stopped.
-    pub fn refused(self, refusal: Refusal) -> Stepped
-        ensures { result ≡ refused_from self refusal }
+    pub fn refused(self, n: u8) -> Stepped
+        ensures { result ≡ refused_from self n }
     {
         Stepped {
-            answer: Answer::Refused(refusal),
+            answer: Answer::Refused(n),
             link: Link {
                 stopped: true,
                 ..self

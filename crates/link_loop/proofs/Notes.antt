@@ -13,6 +13,7 @@ use Rattle.escape.specs.Put.{over}
 use Rattle.serial_rules.specs.Link as rules
 use Rattle.serial_rules.specs.Record.{passes}
 use Rattle.refusal.specs.declared.Refusal.TheVariants.{NoRoom}
+use Rattle.refusal.specs.Refusals.{number}
 use Rattle.link.specs.declared.Link.{Link}
 use Rattle.answers.specs.declared.Answer.{Answer}
 use Rattle.answers.specs.declared.Answer.TheVariants as variant
@@ -133,7 +134,7 @@ begins l reply own room content = record { reports = []; passed = none; steps = 
 
 -- What `run` promises: of too little room, and of what the loop did with enough.
 pub no_room : {l : Link} {reply own raw room content : List ℕ} {r : Ran} → lacks_room l.held (length raw) (length room) (length content) ≡ true
-    → r ≡ ended_from l (variant.Refused NoRoom) 0 fresh → RunDone l reply own raw room content r reply own room content
+    → r ≡ ended_from l (variant.Refused (number NoRoom)) 0 fresh → RunDone l reply own raw room content r reply own room content
 no_room h q = record { short = λ _. (q, refl, refl, refl, refl); ran = λ k. cc }
 
 -- the test of the content, without a sum

@@ -1,6 +1,6 @@
 -- Bytes of a reply taken one behind the other: each data byte is a step, or two where an escape stands before it.
 use Rattle.link.specs.declared.Wait.TheVariants.{Idle, Waiting}
-use Rattle.std.specs.Prelude.{Some, None}
+use Rattle.std.specs.Prelude.{None}
 use Prim.Native.Nat.{ℕ, suc, ◌+◌, ◌-◌, ◌≤◌, ◌<◌}
 use native.Mathlib.Numerals.{add-one}
 use native.Mathlib.Omega.{arith}

@@ -4,6 +4,7 @@ use Rattle.escape.specs.Put.{over}
 use Rattle.serial_rules.specs.Link as rules
 use Rattle.serial_rules.specs.Record.{passes}
 use Rattle.refusal.specs.declared.Refusal.TheVariants.{NoRoom}
+use Rattle.refusal.specs.Refusals.{number}
 use Rattle.link.specs.declared.Link.{Link}
 use Rattle.answers.specs.declared.Answer.{Answer}
 use Rattle.answers.specs.declared.Answer.TheVariants as variant
@@ -46,7 +47,7 @@ unfoldable pub lacks_room : ℕ → ℕ → ℕ → ℕ → Bool
 lacks_room held bytes room content = ltb (room / 5) bytes || ltb content (bytes + held)
 
 abbrev pub no_room : Link → Ran
-no_room l = record { answer = variant.Refused NoRoom; used = 0; noted = 0; stored = 0; link = l }
+no_room l = record { answer = variant.Refused (number NoRoom); used = 0; noted = 0; stored = 0; link = l }
 
 -- The loop ran: over the bytes used it passed over `reports`, whose notes and data stand in the lent bytes, and then ended as its answer says.
 pub record RanDone (link : Link) (reply own raw room content : List ℕ) (r : Ran) (reply-left own-left room-left content-left : List ℕ) : Type 0 where

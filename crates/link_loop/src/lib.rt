@@ -47,7 +47,12 @@ pub fn run(
     ensures { RunDone link reply.old own.old raw.now room.old content.old result reply.new own.new room.new content.new }
 {
     if lacks_room(link.held, raw.len(), room.len(), content.len()) {
-        return ended(link, Answer::Refused(Refusal::NoRoom), 0, Log::new());
+        return ended(
+            link,
+            Answer::Refused(Refusal::NoRoom.number()),
+            0,
+            Log::new(),
+        );
     }
     let mut at = link;
     let mut i: usize = 0;

@@ -27,7 +27,6 @@ use Rattle.actions.specs.Actions.{action_for}
 use Rattle.actions.specs.declared.Action.{Action}
 use Rattle.actions.specs.declared.Action.TheVariants.{Error, Event, Address, Block}
 use Rattle.actions.specs.declared.Target.TheVariants.{Set, Execute, Load, Save}
-use Rattle.refusal.specs.Refusals.{refusal_at}
 use Rattle.link.specs.declared.Link.{Link}
 use Rattle.answers.specs.declared.Answer.{Answer}
 use Rattle.link.specs.declared.Stepped.{Stepped}
@@ -257,7 +256,7 @@ module _ (l : Link) (reply own : List ℕ) (x : ℕ) (lent : length reply ≡ re
         sym (link_back_lem n reply-left own-left u got held l) ∙ ap (leaves l) d.next
 
     refused_is : {r : rules.Report} → Refuses r → (view_of l reply own ≡ rules.stopped → ⊥) → o.answer ≡ answer_for r → o.link ≡ stopped_from l
-    refused_is (refuses n) runs e = d.stops (refusal_at n) runs e
+    refused_is (refuses n) runs e = d.stops n runs e
 
     link_is : usable_of l ≡ true → o.link ≡ leaves l (rules.step (view_of l reply own) x).next
     link_is u = go (usable_of o.link) refl

@@ -32,10 +32,8 @@ use Rattle.actions.specs.declared.Meaning.{Meaning}
 use Rattle.actions.specs.declared.Meaning.TheVariants.{Starts}
 use Rattle.kind.specs.Kinds.{kind_for}
 use Rattle.kind.specs.declared.CallKind.{CallKind}
-use Rattle.refusal.specs.declared.Refusal.{Refusal}
 use Rattle.refusal.specs.declared.Refusal.TheVariants.{NotCarried, Misplaced, Stopped, BadField, TooDeep}
 use Rattle.refusal.specs.Refusals.{number}
-use Rattle.refusal.proofs.Refusals.{refusal_back}
 use Rattle.link.specs.declared.Link.{Link}
 use Rattle.answers.specs.declared.Answer.{Answer}
 use Rattle.answers.specs.declared.Answer.TheVariants as variant
@@ -51,9 +49,9 @@ use Rattle.link.proofs.Limits.{usable_got, usable_held, usable_nested, nested_lo
 
 -- the five ways in which a step leaves the record
 module _ (l : Link) (reply own : List ℕ) where
-  refused_gives : (r : Refusal) → LinkGives l (rules.gives (rules.refusal (number r)) rules.stopped) reply own (refused_from l r) reply own
+  refused_gives : (n : ℕ) → LinkGives l (rules.gives (rules.refusal n) rules.stopped) reply own (refused_from l n) reply own
   unfolding usable_of
-  refused_gives r = record { step_is = refl; answer_is = ap variant.Refused (sym (refusal_back r)); reply_bytes = refl; own_bytes = refl; stops = λ k e. refl }
+  refused_gives n = record { step_is = refl; answer_is = refl; reply_bytes = refl; own_bytes = refl; stops = λ k e. refl }
 
   paused_gives : usable_of l ≡ true →
       LinkGives l (rules.gives rules.need_more (rules.live (rules.layer true (doing_of l own) (nest_of l.nested)) (frame_of l reply))) reply own (paused_from l) reply own
@@ -144,17 +142,17 @@ open_top l u n0 = nest_top l.nested (omega arith) (nested_low l u)
 
 -- a mark outside an action, by what it means
 module _ (l : Link) {x : Stepped} where
-  pub mark_unknown : x ≡ refused_from l NotCarried → OutsideDone l rules.unknown x
+  pub mark_unknown : x ≡ refused_from l (number NotCarried) → OutsideDone l rules.unknown x
   unfolding rules.meets
-  mark_unknown q reply own = rw q (refused_gives l reply own NotCarried)
+  mark_unknown q reply own = rw q (refused_gives l reply own (number NotCarried))
 
-  pub end_alone : l.nested ≡ 0 → x ≡ refused_from l Misplaced → ClosingDone l x
+  pub end_alone : l.nested ≡ 0 → x ≡ refused_from l (number Misplaced) → ClosingDone l x
   unfolding rules.meets
-  end_alone e q reply own = rw (none_open l e, q) (refused_gives l reply own Misplaced)
+  end_alone e q reply own = rw (none_open l e, q) (refused_gives l reply own (number Misplaced))
 
-  pub fifth_refused : (a : Action) → rules.may_start (action_for a) (nest_of l.nested) ≡ false → x ≡ refused_from l TooDeep → StartDone l a x
+  pub fifth_refused : (a : Action) → rules.may_start (action_for a) (nest_of l.nested) ≡ false → x ≡ refused_from l (number TooDeep) → StartDone l a x
   unfolding rules.meets
-  fifth_refused a may q reply own = rw (may, q) (refused_gives l reply own TooDeep)
+  fifth_refused a may q reply own = rw (may, q) (refused_gives l reply own (number TooDeep))
 
   module _ (u : usable_of l ≡ true) where
     pub escape_told : {on : Bool} → x ≡ going_from l (variant.EscapeState on) None 0 → OutsideDone l (rules.state on) x
@@ -186,9 +184,9 @@ module _ (l : Link) (m : ℕ) {x : Stepped} where
   pub mark_outside_lem : l.doing ≡ None → OpeningDone l m x → MarkDone l m x
   mark_outside_lem e g reply own = subst (MarkAt l reply own m x) (sym e) (g reply own)
 
-  pub mark_inside : {a : Action} → l.doing ≡ Some a → x ≡ refused_from l Misplaced → MarkDone l m x
+  pub mark_inside : {a : Action} → l.doing ≡ Some a → x ≡ refused_from l (number Misplaced) → MarkDone l m x
   unfolding rules.meets
-  mark_inside e q reply own = subst (MarkAt l reply own m x) (sym e) (rw q (refused_gives l reply own Misplaced))
+  mark_inside e q reply own = subst (MarkAt l reply own m x) (sym e) (rw q (refused_gives l reply own (number Misplaced)))
 
 -- a data byte outside an action: of the innermost transfer
 module _ (l : Link) (reply : List ℕ) (b : ℕ) {x : Stepped} (u : usable_of l ≡ true) (n0 : l.nested ≡ 0 → ⊥) where
@@ -199,11 +197,11 @@ module _ (l : Link) (reply : List ℕ) (b : ℕ) {x : Stepped} (u : usable_of l 
       subst (λ (t : rules.Token). Met l reply own (rules.seen t (rules.layer false rules.none (nest_of l.nested))) x reply own) (sym (ap (λ (o : List rules.Transfer). rules.innermost o b) top))
       (rw q (quiet_gives l reply own (variant.Loaded b) u (omega arith) refl))
 
-  pub data_saved : (l.nested % 2 ≡ 1 → ⊥) → x ≡ refused_from l BadField → ReplyByteDone l reply b x reply
+  pub data_saved : (l.nested % 2 ≡ 1 → ⊥) → x ≡ refused_from l (number BadField) → ReplyByteDone l reply b x reply
   unfolding rules.meets
   data_saved even q own =
       let top : nest_of l.nested ≡ rules.save ∷ nest_of ((l.nested - 1) / 2) = open_top l u n0 ∙ rw (ne_eqb (l.nested % 2) 1 even) refl in
-      rw (top, q) (refused_gives l reply own BadField)
+      rw (top, q) (refused_gives l reply own (number BadField))
 
 -- and outside every transfer
 module _ (l : Link) (reply : List ℕ) (b : ℕ) {x : Stepped} (z : l.nested ≡ 0) where
@@ -218,10 +216,10 @@ module _ (l : Link) (reply : List ℕ) (b : ℕ) {x : Stepped} (z : l.nested ≡
       (rw q (rw (none_open l z) at (quiet_gives l reply own (variant.Character b) u (omega arith) refl))))
 
   module _ {k : CallKind} (waits : l.wait ≡ Waiting k) (h : l.got < length reply) where
-    pub reply_refused : {r : Refusal} → shape_turn (shape_of (kind_for k)) l.got b ≡ refused (number r) → x ≡ refused_from l r → ReplyByteDone l reply b x reply
-    reply_refused {r} t q own =
+    pub reply_refused : {n : ℕ} → shape_turn (shape_of (kind_for k)) l.got b ≡ refused n → x ≡ refused_from l n → ReplyByteDone l reply b x reply
+    reply_refused {n} t q own =
         outer own (subst (ReplyAt l reply own b x reply) (sym waits)
-        (rw (length-take-le l.got reply (le_of_lt h), t, q) (refused_gives l reply own r)))
+        (rw (length-take-le l.got reply (le_of_lt h), t, q) (refused_gives l reply own n)))
 
     pub reply_more : shape_turn (shape_of (kind_for k)) l.got b ≡ more → x ≡ resting_with variant.More (Waiting k) (l.got + 1) →
         ReplyByteDone l reply b x (set reply l.got b)
@@ -266,11 +264,11 @@ pub error_full : {a : Action} (n b : ℕ) → shape_turn (rules.own_shape (actio
 error_full n b t is = text_done n b (subst (λ (a : Action). shape_turn (rules.own_shape (action_for a)) n b ≡ done) is t)
 
 module _ (l : Link) (own : List ℕ) (b : ℕ) {x : Stepped} {a : Action} (is : l.doing ≡ Some a) (h : l.held < length own) where
-  pub own_refused : {r : Refusal} → shape_turn (rules.own_shape (action_for a)) l.held b ≡ refused (number r) → x ≡ refused_from l r → OwnDone l own b x own
+  pub own_refused : {n : ℕ} → shape_turn (rules.own_shape (action_for a)) l.held b ≡ refused n → x ≡ refused_from l n → OwnDone l own b x own
   unfolding rules.meets
-  own_refused {r} t q reply =
+  own_refused {n} t q reply =
       subst (DataAt l reply own b x reply own) (sym is)
-      (rw (length-take-le l.held own (le_of_lt h), t, q) (refused_gives l reply own r))
+      (rw (length-take-le l.held own (le_of_lt h), t, q) (refused_gives l reply own n))
 
   module _ (u : usable_of l ≡ true) where
     pub own_more : shape_turn (rules.own_shape (action_for a)) l.held b ≡ more → x ≡ going_from l variant.More (Some a) (l.held + 1) →
@@ -335,7 +333,7 @@ data_outside l reply own b {x} {left} e g = subst (DataAt l reply own b x left o
 
 -- a raw byte
 module _ (l : Link) (reply own : List ℕ) (raw : ℕ) where
-  pub at_stopped : usable_of l ≡ false → StepDone l reply own raw (record { answer = variant.Refused Stopped; link = l }) reply own
+  pub at_stopped : usable_of l ≡ false → StepDone l reply own raw (record { answer = variant.Refused (number Stopped); link = l }) reply own
   unfolding rules.step reply_after own_after
   at_stopped u = record {
     answer = rw u;

@@ -10,6 +10,7 @@ use Rattle.actions.specs.declared.Target.TheVariants.{Set, Execute, Load, Save}
 use Rattle.actions.specs.declared.Action.{Action}
 use Rattle.actions.specs.declared.Action.TheVariants.{Error, Event, Address, Block}
 use Rattle.refusal.specs.declared.Refusal.{Refusal}
+use Rattle.refusal.specs.Refusals.{number}
 use Rattle.link.specs.declared.Link.{Link}
 use Rattle.answers.specs.declared.Answer.{Answer}
 use Rattle.answers.specs.declared.Answer.TheVariants as variant
@@ -21,7 +22,7 @@ use Rattle.answers.specs.Reports.{report_of, answer_for}
 -- what a step leaves, of what a part of it gives: a refusal leaves the record given, stopped
 abbrev pub stepped_from : Link → Result Stepped Refusal → Stepped
 stepped_from l (Ok s) = s
-stepped_from l (Err r) = refused_from l r
+stepped_from l (Err r) = refused_from l (number r)
 
 -- what four address bytes leave, by what they are for: those of a load or save open it
 abbrev pub placed_from : Link → Target → Answer → Stepped
@@ -46,7 +47,7 @@ pub record LinkGives (link : Link) (step : rules.Step) (reply-after own-after : 
   pub answer_is : r.answer ≡ answer_for step.report
   pub reply_bytes : reply-left ≡ reply-after
   pub own_bytes : own-left ≡ own-after
-  pub stops : (n : Refusal) → r.answer ≡ variant.Refused n → r.link ≡ stopped_from link
+  pub stops : (n : ℕ) → r.answer ≡ variant.Refused n → r.link ≡ stopped_from link
 
 abbrev pub Met : Link → List ℕ → List ℕ → rules.Seen → Stepped → List ℕ → List ℕ → Type 0
 Met l reply own-after s r reply-left own-left =

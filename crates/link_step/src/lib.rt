@@ -27,14 +27,14 @@ pub fn step(
 {
     if !link.usable() {
         return Stepped {
-            answer: Answer::Refused(Refusal::Stopped),
+            answer: Answer::Refused(Refusal::Stopped.number()),
             link,
         };
     }
     let usable = Usable { link };
     match usable.read(raw, reply, own) {
         Ok(stepped) => stepped,
-        Err(refusal) => link.refused(refusal),
+        Err(refusal) => link.refused(refusal.number()),
     }
 }
 

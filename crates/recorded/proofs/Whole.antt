@@ -33,7 +33,6 @@ use Rattle.kind.specs.declared.CallKind.{CallKind}
 use Rattle.refusal.specs.declared.Refusal.{Refusal}
 use Rattle.refusal.specs.declared.Refusal.TheVariants.{NoRoom}
 use Rattle.refusal.specs.Refusals.{number}
-use Rattle.refusal.proofs.Refusals.{refusal_back}
 use Rattle.answers.specs.declared.Answer.{Answer}
 use Rattle.answers.specs.declared.Answer.TheVariants as variant
 use Rattle.link.specs.declared.Link.{Link}
@@ -168,11 +167,11 @@ module _ {s : List ℕ} {sh : Shape} {last : ℕ} {notes₀ content₀ reply own
     pub reading_ran_out : unit_at s i ≡ units.gone → AllDone s k notes₀ content₀ (ended_at variant.More (length s) log) reply own notes content
     reading_ran_out u = over_with [] (laws.top_gone s (kind_for k) i (take got reply) v.near u) refl (gives_none v.near)
 
-    pub reading_refused : {b n : ℕ} {x : Refusal} → unit_at s i ≡ units.datum b n → shape_turn sh got b ≡ refused (number x)
-        → AllDone s k notes₀ content₀ (ended_at (variant.Refused x) n log) reply own notes content
-    reading_refused {b} {x = x} u t =
+    pub reading_refused : {b n m : ℕ} → unit_at s i ≡ units.datum b n → shape_turn sh got b ≡ refused m
+        → AllDone s k notes₀ content₀ (ended_at (variant.Refused m) n log) reply own notes content
+    reading_refused {b} u t =
         let q = data_near s i u in
-        over_with [] (laws.top_refused s (kind_for k) i (take got reply) v.near u (turned_as b t)) (ap variant.Refused (sym (refusal_back x))) (gives_none (omega arith))
+        over_with [] (laws.top_refused s (kind_for k) i (take got reply) v.near u (turned_as b t)) refl (gives_none (omega arith))
 
     pub reading_done : {b n : ℕ} → unit_at s i ≡ units.datum b n → shape_turn sh got b ≡ done
         → AllDone s k notes₀ content₀ (ended_at (variant.Reply (got + 1)) n log) (set reply got b) own notes content
@@ -314,7 +313,7 @@ module _ {s : List ℕ} {k : CallKind} {notes content : List ℕ} {r : Ended} {r
 
   -- the lent bytes are too short
   pub short_read : {n c out : List ℕ} → is_short r.log (length n) (length c) ≡ true
-      → ReadDone k s n c out (record { answer = variant.Refused NoRoom; used = 0; noted = r.log.noted; stored = r.log.stored }) n c out
+      → ReadDone k s n c out (record { answer = variant.Refused (number NoRoom); used = 0; noted = r.log.noted; stored = r.log.stored }) n c out
   short_read {n} {c} e = record {
     notes_count = run_counts.0;
     content_count = run_counts.1;
@@ -369,6 +368,6 @@ module _ {s : List ℕ} {k : CallKind} {notes content out : List ℕ} where
       → ReadDone k s notes content out (nothing_read (variant.Reply 0)) notes content out
   complete_read e = ended_read s k notes content out (reply_from (kind_for k) s e) refl refl
 
-  pub denied_read : {r : Refusal} → (rules.begin rules.fresh (kind_for k)).answer ≡ rules.denied (number r)
-      → ReadDone k s notes content out (nothing_read (variant.Refused r)) notes content out
-  denied_read {r} e = ended_read s k notes content out (reply_from (kind_for k) s e) (ap variant.Refused (sym (refusal_back r))) refl
+  pub denied_read : {m : ℕ} → (rules.begin rules.fresh (kind_for k)).answer ≡ rules.denied m
+      → ReadDone k s notes content out (nothing_read (variant.Refused m)) notes content out
+  denied_read e = ended_read s k notes content out (reply_from (kind_for k) s e) refl refl

@@ -8,6 +8,7 @@ use Rattle.serial_rules.specs.Record.{Outcome, ran_out, closed, recorded_reply}
 use Rattle.kind.specs.Kinds.{kind_for}
 use Rattle.kind.specs.declared.CallKind.{CallKind}
 use Rattle.refusal.specs.declared.Refusal.TheVariants.{NoRoom}
+use Rattle.refusal.specs.Refusals.{number}
 use Rattle.answers.specs.declared.Answer.TheVariants as variant
 use Rattle.notes.specs.Notes.{notes_of, data_of}
 pub use Rattle.action_bytes.specs.Parts.{answer_of}
@@ -46,7 +47,7 @@ pub record Read (q : record-rules.Recorded) (notes content out : List ℕ) (r : 
 
 -- 8: nothing is read or touched
 pub record Short (notes content out : List ℕ) (r : Recorded) (notes-left content-left out-left : List ℕ) : Type 0 where
-  pub answer : r.answer ≡ variant.Refused NoRoom
+  pub answer : r.answer ≡ variant.Refused (number NoRoom)
   pub used : r.used ≡ 0
   pub same_notes : notes-left ≡ notes
   pub same_content : content-left ≡ content

@@ -51,7 +51,7 @@ pub fn read_recorded(
             Begun::Waits => read_waiting(kind, raw, notes, content, out),
             Begun::Complete => nothing_read(Answer::Reply(0)),
         },
-        Err(refusal) => nothing_read(Answer::Refused(refusal)),
+        Err(refusal) => nothing_read(Answer::Refused(refusal.number())),
     }
 }
 
@@ -93,7 +93,7 @@ fn read_waiting(
     let needed = counted.log;
     if is_short(needed, notes.len(), content.len()) {
         return Recorded {
-            answer: Answer::Refused(Refusal::NoRoom),
+            answer: Answer::Refused(Refusal::NoRoom.number()),
             used: 0,
             noted: needed.noted,
             stored: needed.stored,
@@ -177,7 +177,7 @@ fn read_whole(
                 let turn = match shape.turn(got, b) {
                     Ok(turn) => turn,
                     Err(refusal) => {
-                        return stopped_at(Answer::Refused(refusal), next, log);
+                        return stopped_at(Answer::Refused(refusal.number()), next, log);
                     }
                 };
                 reply[got] = b;

@@ -15,6 +15,7 @@ use Rattle.actions.specs.Actions.{meaning_for}
 use Rattle.actions.specs.declared.Meaning.{Meaning}
 use Rattle.actions.specs.declared.Meaning.TheVariants as meaning
 use Rattle.refusal.specs.declared.Refusal.TheVariants.{BadField}
+use Rattle.refusal.specs.Refusals.{number}
 use Rattle.answers.specs.declared.Answer.{Answer}
 use Rattle.answers.specs.declared.Answer.TheVariants as variant
 use Rattle.answers.specs.Reports.{transfer_for, report_of}
@@ -161,11 +162,11 @@ module _ {s : List ℕ} {save : Bool} {d from : ℕ} {notes₀ content₀ : List
   walk_ran_out u = over [] (laws.body_gone s d i v.near (transfer_for save) u) ends_more Logged.none (gives_none v.near) v.near (omega arith)
 
   pub walk_saved : {b n : ℕ} {own : List ℕ} → unit_at s i ≡ units.datum b n → save ≡ true
-      → BodyDone s save d from log₀ notes₀ content₀ (halted_at (variant.Refused BadField) n log) own notes content
+      → BodyDone s save d from log₀ notes₀ content₀ (halted_at (variant.Refused (number BadField)) n log) own notes content
   walk_saved {b} {n} {own} u e =
       let k = data_near s i u in
-      over [] (subst (λ (x : Bool). Body s (transfer_for x) d i [] (went_of (Some (variant.Refused BadField)) n own)) (sym e) (laws.body_saved s d i v.near u))
-      (ends_refused BadField) Logged.none (gives_none (omega arith)) (omega arith) k.1
+      over [] (subst (λ (x : Bool). Body s (transfer_for x) d i [] (went_of (Some (variant.Refused (number BadField))) n own)) (sym e) (laws.body_saved s d i v.near u))
+      (ends_refused (number BadField)) Logged.none (gives_none (omega arith)) (omega arith) k.1
 
   pub walk_loads : {b n : ℕ} {r : Loads} {notes-left content-left : List ℕ} → unit_at s i ≡ units.datum b n → save ≡ false
       → LoadDone s b n log notes content r notes-left content-left

@@ -68,7 +68,7 @@ fn body(
             }
             Unit::Data(b, next) => {
                 if save {
-                    return halted(Answer::Refused(Refusal::BadField), next, log);
+                    return halted(Answer::Refused(Refusal::BadField.number()), next, log);
                 }
                 let l = load(b, raw, next, log, own, notes, content);
                 i = l.at;

@@ -16,12 +16,12 @@ pub returns-in-Gone : goal.returns-in-Gone
 returns-in-Gone c = own_ran_out c.loop-at.invariant (sym c.unit_at-unit.ensures ∙ ap unit_for c.in-Gone.is)
 
 pub returns-in-Mark : goal.returns-in-Mark
-returns-in-Mark c = own_marked c.loop-at.invariant (sym c.unit_at-unit.ensures ∙ ap unit_for c.in-Mark.is)
+returns-in-Mark c = rw c.number.ensures (own_marked c.loop-at.invariant (sym c.unit_at-unit.ensures ∙ ap unit_for c.in-Mark.is))
 
 pub returns-in-Err : goal.returns-in-Err
 returns-in-Err c =
-    own_is_refused c.loop-at.invariant (sym c.unit_at-unit.ensures ∙ ap unit_for c.in-Data.is)
-    (turned c.shape.result {t = Err c.in-Err.refusal} c.loop-at.held c.in-Data.b c.shape.ensures c.in-Err.ensures refl)
+    rw c.number-in-Err.ensures (own_is_refused c.loop-at.invariant (sym c.unit_at-unit.ensures ∙ ap unit_for c.in-Data.is)
+    (turned c.shape.result {t = Err c.in-Err.refusal} c.loop-at.held c.in-Data.b c.shape.ensures c.in-Err.ensures refl))
 
 pub bounds-own-held : goal.bounds-own-held
 bounds-own-held c = omega (arith, own_below c.loop-at.invariant)

@@ -6,7 +6,7 @@ use Rattle.action_bytes.proofs.Parts.{fifth_starts, halted_starts, whole_starts}
 use Rattle.action_bytes.proofs.start.Goals as goal
 
 pub returns-then-is_fifth : goal.returns-then-is_fifth
-returns-then-is_fifth c = fifth_starts c.args.action c.args.depth c.requires.0 (sym c.is_fifth.ensures ∙ c.if-is_fifth.true)
+returns-then-is_fifth c = rw c.number.ensures (fifth_starts c.args.action c.args.depth c.requires.0 (sym c.is_fifth.ensures ∙ c.if-is_fifth.true))
 
 pub returns-in_err-owned : goal.returns-in_err-owned
 returns-in_err-owned c =

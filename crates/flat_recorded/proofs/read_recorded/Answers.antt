@@ -9,4 +9,4 @@ returns-in-Some c =
     called k.0 k.1 c.read_recorded.ensures c.flat_recorded.ensures
 
 pub returns-in-None : goal.returns-in-None
-returns-in-None c = not_called_lem (kind_unknown c.args.call c.args.out_length c.in-None.ensures) c.flat_recorded-in-None.ensures
+returns-in-None c = not_called_lem (kind_unknown c.args.call c.args.out_length c.in-None.ensures) (rw c.number.ensures at c.flat_recorded-in-None.ensures)

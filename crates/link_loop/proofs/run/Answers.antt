@@ -6,6 +6,7 @@ use borrow.Author.Rules.{rules}
 use borrow.Author.Tests.{not-false}
 use Rattle.link.specs.declared.Link.{Link}
 use Rattle.refusal.specs.declared.Refusal.TheVariants.{NoRoom}
+use Rattle.refusal.specs.Refusals.{number}
 use Rattle.answers.specs.declared.Answer.TheVariants as variant
 use Rattle.link_loop.specs.Parts.{ended_from}
 use Rattle.link_loop.proofs.Notes.{ends_lent, ends_reply, room_length, content_length, taken_part, taken_within, loads_over, loads_within, begins, no_room, all_read, whole_reply, counts, one_more, ended, step_low}
@@ -15,7 +16,7 @@ use Rattle.link_loop.proofs.run.Goals as goal
 pub returns-then-lacks_room : goal.returns-then-lacks_room
 returns-then-lacks_room c =
     no_room (sym c.lacks_room.ensures ∙ c.if-lacks_room.true)
-    (c.ended.ensures ∙ ap (ended_from c.args.link (variant.Refused NoRoom) 0) c.new.ensures)
+    (rw c.number.ensures at c.ended.ensures ∙ ap (ended_from c.args.link (variant.Refused (number NoRoom)) 0) c.new.ensures)
 
 pub loop-at-init : goal.loop-at-init
 loop-at-init c = (omega arith, rw c.new-log.ensures (begins _ _ _ _ _))

@@ -12,4 +12,4 @@ pub returns-in-Complete : goal.returns-in-Complete
 returns-in-Complete c = rw c.nothing_read.ensures (complete_read (begins_fresh c.new.ensures c.begin-started.ensures (c.in-Ok.is ∙ ap Ok c.in-Complete.is)))
 
 pub returns-in-Err : goal.returns-in-Err
-returns-in-Err c = rw c.nothing_read-in-Err.ensures (denied_read (begins_fresh c.new.ensures c.begin-started.ensures c.in-Err.is))
+returns-in-Err c = rw (c.nothing_read-in-Err.ensures, c.number.ensures) (denied_read (begins_fresh c.new.ensures c.begin-started.ensures c.in-Err.is))

@@ -56,7 +56,7 @@ shape_of-content-in-Err c = c.loop-b.invariant.content_size
 
 pub returns-in-Err : goal.returns-in-Err
 returns-in-Err c =
-    rw c.stopped_at-in-Err.ensures (reading_refused c.loop-b.invariant
+    rw (c.stopped_at-in-Err.ensures, c.number.ensures) (reading_refused c.loop-b.invariant
     c.args.kind (sym c.shape-shape.ensures) (sym
     c.unit_at-unit.ensures ∙ ap unit_for
     c.in-Data.is) (sym c.in-Err.ensures))

@@ -38,7 +38,7 @@ body-returns-in-Gone t c =
 
 pub body-returns-then-save : goal.body-returns-then-save
 body-returns-then-save t c =
-    rw c.halted-then-save.ensures (walk_saved c.loop-b.invariant (sym
+    rw (c.halted-then-save.ensures, c.number.ensures) (walk_saved c.loop-b.invariant (sym
     c.unit_at-unit.ensures ∙ ap unit_for c.in-Data.is) c.if-save.true)
 
 pub body-load-l-requires : goal.body-load-l-requires
